@@ -1,0 +1,2 @@
+pub mod FramingLaws
+pub mod WalkLaws

@@ -1,0 +1,24 @@
+-- `header::effect_of` meets its contract.
+use borrow.Author.Tests.{eq-eqb, ne-eqb, lt-ltb, le-ltb, le-leb, lt-leb}
+use Rattle.packets.specs.Packet.{ask, effectOf}
+use Rattle.packets.proofs.header.effect_of.Statement.{statement}
+use Rattle.packets.proofs.header.effect_of.Tie as tie
+
+returns : tie.Need-returns
+unfolding effectOf ask
+returns c = simp (ne-eqb _ _ (c .if1 .taken))
+
+returns-2 : tie.Need-returns-2
+unfolding effectOf ask
+returns-2 c = simp (eq-eqb _ _ (c .before .if1 .left), eq-eqb _ _ (c .if2 .taken))
+
+returns-3 : tie.Need-returns-3
+unfolding effectOf ask
+returns-3 c = simp (eq-eqb _ _ (c .before .before .if1 .left), ne-eqb _ _ (c .before .if2 .left), eq-eqb _ _ (c .if3 .taken))
+
+returns-4 : tie.Need-returns-4
+unfolding effectOf ask
+returns-4 c = simp (eq-eqb _ _ (c .before .before .if1 .left), ne-eqb _ _ (c .before .if2 .left), ne-eqb _ _ (c .if3 .left))
+
+pub effect-of-spec : {M : Type 1} → statement M
+effect-of-spec = tie.close (tie.spec returns returns-2 returns-3 returns-4)

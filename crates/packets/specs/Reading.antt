@@ -1,0 +1,138 @@
+-- Words to packets to writes, and from sync to sync. Document 01, "How the configuration reader reads".
+use Prim.Native.Nat.{ℕ, zero, suc, _+_, _%_, _^_}
+use mathlib.Core.Bool.{Bool, true, false}
+use mathlib.Core.Option.{Option, some, none}
+use mathlib.Core.List.{List, [], _∷_}
+use lib.ListN.{length, drop}
+use lib.Dec.{eqb, ltb}
+use Rattle.packets.specs.Framing.{find, words}
+use Rattle.packets.specs.Packet.{headOf, effectOf, WBSTAR}
+use Rattle.packets.specs.declared.framing.Found.the-variants.{At, Nothing as NoSync}
+use Rattle.packets.specs.declared.header.Header.{Header}
+use Rattle.packets.specs.declared.header.Header.the-variants.{Nop, Type1, Type2, Fault as BadHeader}
+use Rattle.packets.specs.declared.header.Before.{Before}
+use Rattle.packets.specs.declared.header.Before.the-variants.{Opened, Other}
+use Rattle.packets.specs.declared.header.Effect.the-variants.{GoesOn, Desync, Iprog as Jumps}
+use Rattle.packets.specs.declared.walk.Finish.{Finish}
+use Rattle.packets.specs.declared.walk.Finish.the-variants.{Ended, Iprog, Fault, Short}
+use Rattle.packets.specs.declared.reader.Outcome.{Outcome}
+use Rattle.packets.specs.declared.reader.Outcome.the-variants.{Loaded, Iprog as NoJump, Stuck}
+use Rattle.packets.specs.declared.writes.Write.{Write}
+use Rattle.packets.specs.declared.writes.WriteAnswer.{WriteAnswer}
+use Rattle.packets.specs.declared.writes.WriteAnswer.the-variants.{Found, Nothing}
+
+-- What the next word is: a header, with what the word just before it allows, or a data word for the register, with so many more after it.
+pub data Mode : Type 0 where
+  header : Before → Mode
+  payload : ℕ → ℕ → Mode
+
+-- the mode in which `left` data words for the register come next, or else a header
+unfoldable pub modeOf : ℕ → ℕ → Before → Mode
+modeOf zero register before = header before
+modeOf (suc more) register before = payload register more
+
+-- A type 2 header uses the register of the word just before it, which must be a type 1 write header of count 0.
+unfoldable pub afterHeader : Header → Before → Option Mode
+afterHeader Nop before = some (header Other)
+afterHeader (Type1 register count) before = some (modeOf count register (Opened register))
+afterHeader (Type2 count) (Opened register) = some (modeOf count register Other)
+afterHeader (Type2 count) Other = none
+afterHeader BadHeader before = none
+
+-- What reading words does: writes, each with the data words left in its packet, and then an end.
+pub data Trace : Type 0 where
+  wrote : Write → ℕ → Trace → Trace
+  ended : ℕ → Trace
+  jumps : ℕ → Trace
+  faulty : ℕ → Trace
+  short : Trace
+
+-- A data word is one write: register, word, place. DESYNC and IPROG are themselves writes, and what follows them is unread.
+unfoldable pub trace : List ℕ → ℕ → Mode → Trace
+trace [] place mode = short
+trace (word ∷ more) place (header before) =
+    elim (afterHeader (headOf word) before) [ none ↦ faulty place | some mode ↦ trace more (place + 4) mode ]
+trace (word ∷ more) place (payload register left) =
+    wrote (record { register = register; word = word; place = place }) left
+    (elim (effectOf register word)
+    [ GoesOn ↦ trace more (place + 4) (modeOf left register Other)
+    | Desync ↦ ended (place + 4)
+    | Jumps ↦ jumps place ])
+
+-- the last WBSTAR word
+abbrev pub lastWbstar : Write → ℕ → ℕ
+lastWbstar write before = elim (eqb (write .register) WBSTAR) [ true ↦ write .word | false ↦ before ]
+
+-- IPROG jumps to the byte in bits 28 to 0 of the last WBSTAR word
+abbrev pub target : ℕ → ℕ
+target wbstar = wbstar % 2 ^ 29
+
+-- how a trace ends, with the writes and the last WBSTAR word before it
+unfoldable pub finish : Trace → ℕ → ℕ → Finish
+finish (wrote write left more) writes wbstar = finish more (writes + 1) (lastWbstar write wbstar)
+finish (ended end) writes wbstar = Ended end writes
+finish (jumps place) writes wbstar = Iprog place (target wbstar)
+finish (faulty place) writes wbstar = Fault place
+finish short writes wbstar = Short
+
+-- the writes of a trace, in order
+unfoldable pub listOf : Trace → List Write
+listOf (wrote write left more) = write ∷ listOf more
+listOf (ended end) = []
+listOf (jumps place) = []
+listOf (faulty place) = []
+listOf short = []
+
+-- the trace of the words from a place just after a sync; no WBSTAR was written, and no header stands before
+abbrev pub traceFrom : List ℕ → ℕ → Trace
+traceFrom bytes from = trace (words (drop from bytes)) from (header Other)
+
+abbrev pub finishFrom : List ℕ → ℕ → Finish
+finishFrom bytes from = finish (traceFrom bytes from) 0 0
+
+abbrev pub writesFrom : List ℕ → ℕ → List Write
+writesFrom bytes from = listOf (traceFrom bytes from)
+
+-- What a reading from a sync comes to, given what an IPROG at a place with a target does. A word not complete before the end is a fault at the length read.
+unfoldable pub readAt : (ℕ → ℕ → Outcome) → Bool → List ℕ → ℕ → Outcome
+readAt onJump jumped bytes sync =
+    elim (finishFrom bytes (sync + 4))
+    [ Ended end writes ↦ Loaded sync end writes jumped
+    | Iprog place target ↦ onJump place target
+    | Fault place ↦ Stuck place
+    | Short ↦ Stuck (length bytes) ]
+
+-- The search hands over to reading; no sync is a fault at the length read.
+unfoldable pub searchFrom : (ℕ → ℕ → Outcome) → Bool → List ℕ → ℕ → Outcome
+searchFrom onJump jumped bytes from =
+    elim (find (drop from bytes) from) [ At sync ↦ readAt onJump jumped bytes sync | NoSync ↦ Stuck (length bytes) ]
+
+-- A jump hands back to the search. With no jump left an IPROG is a fault, and so is a jump to the length or beyond; both at the IPROG.
+unfoldable pub jump : ℕ → List ℕ → ℕ → ℕ → Outcome
+jump zero bytes place to = NoJump place
+jump (suc left) bytes place to =
+    elim (ltb to (length bytes)) [ true ↦ searchFrom (jump left bytes) true bytes to | false ↦ Stuck place ]
+
+-- a reading from a place, unsynchronised, with so many jumps left
+abbrev pub readFrom : ℕ → Bool → List ℕ → ℕ → Outcome
+readFrom left jumped bytes from = searchFrom (jump left bytes) jumped bytes from
+
+-- a chip is read from byte 0, with one jump at most
+abbrev pub readChip : List ℕ → Outcome
+readChip chip = readFrom 1 false chip 0
+
+-- an image read alone has no jump
+abbrev pub readAlone : List ℕ → Outcome
+readAlone image = readFrom 0 false image 0
+
+-- The writes listed are those since the last jump, so from the last sync; a reading that is not Loaded lists none.
+unfoldable pub listed : List ℕ → Outcome → List Write
+listed bytes (Loaded sync end writes jumped) = writesFrom bytes (sync + 4)
+listed bytes (NoJump place) = []
+listed bytes (Stuck place) = []
+
+-- the i-th, counted from 0, or that there is none
+unfoldable pub nthWrite : List Write → ℕ → WriteAnswer
+nthWrite [] i = Nothing
+nthWrite (write ∷ more) zero = Found write
+nthWrite (write ∷ more) (suc i) = nthWrite more i

@@ -1,0 +1,73 @@
+// Framing: where the sync word is, and the 32-bit words after it, high byte first.
+ghost use mathlib.Core.Path.{_≡_};
+ghost use Prim.Native.Nat.{ℕ, _+_, _-_, _<_, _≤_};
+ghost use lib.ListN.{length, getD, drop};
+ghost use Rattle.packets.specs.Framing.{syncBytes, find, words};
+
+pub(crate) const SYNC: [u8; 4] = [0xAA, 0x99, 0x55, 0x66];
+
+// Where a search ended.
+pub(crate) enum Found {
+    At(usize),
+    Nothing,
+}
+
+// How far on the next place is at which a sync word can begin, when one that ends in `last` does
+// not begin here: the bytes between cannot match `last`.
+fn skip_after(last: u8) -> usize
+    ensures range { λ r. ⌜ (1 ≤ r) × (r ≤ 4) ⌝ }
+    ensures passed { λ r. ⌜ ((i : ℕ) → 1 ≤ i → i < r → last ≡ getD syncBytes (3 - i) 0 → ⊥) ⌝ }
+{
+    match last {
+        0x55 => 1,
+        0x99 => 2,
+        0xAA => 3,
+        _ => 4,
+    }
+}
+
+// The first place at or after `from` where four bytes read AA 99 55 66, at any byte. The four are
+// compared from the last one back, so that most places are passed over unread.
+pub(crate) fn find_sync(s: &[u8], from: usize) -> Found
+    requires { ⌜ from ≤ length (now s) ⌝ }
+    ensures { λ r. ⌜ r ≡ find (drop from (now (s .entry))) from ⌝ }
+{
+    let mut at = from;
+    'search: loop {
+        if s.len() - at < 4 {
+            break 'search Found::Nothing;
+        }
+        let mut left = 4;
+        while 0 < left {
+            left -= 1;
+            if s[at + left] != SYNC[left] {
+                at += skip_after(s[at + 3]);
+                continue 'search;
+            }
+        }
+        break 'search Found::At(at);
+    }
+}
+
+// How many whole words there are from `at` on.
+pub(crate) fn words_from(s: &[u8], at: usize) -> usize
+    ensures { λ r. ⌜ r ≡ length (words (drop at (now (s .entry)))) ⌝ }
+{
+    if at < s.len() { (s.len() - at) / 4 } else { 0 }
+}
+
+fn wide(b: u8) -> u32
+    ensures { λ r. ⌜ (r ≡ b) × (r < 256) ⌝ }
+{
+    b as u32
+}
+
+// The word at `at`, high byte first.
+pub(crate) fn word_at(s: &[u8], at: usize) -> u32
+    requires { ⌜ at + 4 ≤ length (now s) ⌝ }
+    ensures { λ r. ⌜ r ≡ getD (words (drop at (now (s .entry)))) 0 0 ⌝ }
+{
+    let high = wide(s[at]) * 256 + wide(s[at + 1]);
+    let low = wide(s[at + 2]) * 256 + wide(s[at + 3]);
+    high * 65536 + low
+}

@@ -1,0 +1,106 @@
+// One word as a packet header, and what one data word does to the reading.
+ghost use mathlib.Core.Path.{_≡_};
+ghost use Rattle.packets.specs.Packet.{registerOk, type1Of, type2Of, headOf, effectOf};
+
+pub(crate) const CMD: u32 = 4;
+pub(crate) const WBSTAR: u32 = 16;
+const DESYNC: u32 = 0x0000_000D;
+const IPROG: u32 = 0x0000_000F;
+
+// What a word says as a header.
+pub(crate) enum Header {
+    Nop,
+    Type1 { register: u32, count: u32 },
+    Type2 { count: u32 },
+    Fault,
+}
+
+// What the word just before a header allows: a type 1 write header of count 0 opens its register to
+// a type 2 header, every other word opens none.
+pub(crate) enum Before {
+    Opened(u32),
+    Other,
+}
+
+// What a data word does to the reading.
+pub(crate) enum Effect {
+    GoesOn,
+    Desync,
+    Iprog,
+}
+
+// May a write header name this register? All that its five bits can name, for now.
+fn register_ok(register: u32) -> bool
+    ensures { λ r. ⌜ r ≡ registerOk register ⌝ }
+{
+    register < 32
+}
+
+fn type1(word: u32) -> Header
+    ensures { λ r. ⌜ r ≡ type1Of word ⌝ }
+{
+    if word / 0x0004_0000 % 512 != 0 {
+        return Header::Fault;
+    }
+    if word / 0x0800 % 4 != 0 {
+        return Header::Fault;
+    }
+    let operation = word / 0x0800_0000 % 4;
+    let register = word / 0x2000 % 32;
+    let count = word % 0x0800;
+    if operation == 2 {
+        if register_ok(register) {
+            return Header::Type1 { register, count };
+        }
+        return Header::Fault;
+    }
+    if operation != 0 {
+        return Header::Fault;
+    }
+    if register != 0 {
+        return Header::Fault;
+    }
+    if count != 0 {
+        return Header::Fault;
+    }
+    Header::Nop
+}
+
+fn type2(word: u32) -> Header
+    ensures { λ r. ⌜ r ≡ type2Of word ⌝ }
+{
+    if word / 0x0800_0000 % 4 != 2 {
+        return Header::Fault;
+    }
+    Header::Type2 {
+        count: word % 0x0800_0000,
+    }
+}
+
+pub(crate) fn header_of(word: u32) -> Header
+    ensures { λ r. ⌜ r ≡ headOf word ⌝ }
+{
+    let kind = word / 0x2000_0000;
+    if kind == 1 {
+        return type1(word);
+    }
+    if kind == 2 {
+        return type2(word);
+    }
+    Header::Fault
+}
+
+pub(crate) fn effect_of(register: u32, word: u32) -> Effect
+    ensures { λ r. ⌜ r ≡ effectOf register word ⌝ }
+{
+    if register != CMD {
+        return Effect::GoesOn;
+    }
+    if word == DESYNC {
+        return Effect::Desync;
+    }
+    if word == IPROG {
+        return Effect::Iprog;
+    }
+    Effect::GoesOn
+}
