@@ -12,8 +12,8 @@ use lib.ListN.{length, getD, drop, length-drop}
 use lib.Seq.{drop-length}
 use Rattle.packets.specs.Framing.{words}
 use Rattle.packets.specs.Packet.{ask, headOf, effectOf, CMD, WBSTAR}
-use Rattle.packets.specs.Reading.{Mode, header, payload, modeOf, afterHeader, Trace, wrote, ended, jumps, faulty, short, trace, lastWbstar, target, finish, listOf, nthWrite}
-use Rattle.packets.specs.Walk.{walked, walkOf, onward, passed, endingOf, Moved, Inside}
+use Rattle.packets.specs.Reading.{Mode, header, payload, modeOf, afterHeader, Trace, wrote, ended, jumps, faulty, short, trace, lastWbstar, target, finish, listOf, traceFrom, finishFrom, writesFrom, nthWrite}
+use Rattle.packets.specs.Walk.{walked, walkOf, startOf, onward, passed, endingOf, Moved, Inside}
 use Rattle.packets.specs.declared.header.Header.{Header}
 use Rattle.packets.specs.declared.header.Before.{Before}
 use Rattle.packets.specs.declared.header.Before.the-variants.{Other}
@@ -274,3 +274,15 @@ header-moved w length register left before a b = (omega arith, omega arith)
 pub packet-moved : (s : List ℕ) (w : Walk) (length : ℕ) → 1 ≤ w .left → w .at + 4 * w .left ≤ length → w .writes ≤ w .at → Moved length (w .at) (On (passed s w))
 unfolding Moved
 packet-moved s w length h a b = (omega arith, omega arith)
+
+-- The walks that the calls make.
+
+pub finish-walk : (s : List ℕ) (from : ℕ) → walkOf s (startOf from (length s)) ≡ Finished (finishFrom s from)
+unfolding walkOf modeOf
+finish-walk s from =
+    walked-finish (traceFrom s from) (length s) 0 0
+    (let h : length (listOf (traceFrom s from)) ≤ length (words (drop from s)) = list-short (words (drop from s)) from (header Other) in omega (arith, room s from))
+
+pub nth-walk : (s : List ℕ) (from i : ℕ) → cameTo (walkOf s (startOf from i)) ≡ nthWrite (writesFrom s from) i
+unfolding walkOf modeOf
+nth-walk s from i = walked-nth (traceFrom s from) i 0 0

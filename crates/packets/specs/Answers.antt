@@ -6,6 +6,7 @@ use lib.ListN.{length}
 use lib.Dec.{eqb, leb}
 use Rattle.packets.specs.Packet.{ask}
 use Rattle.packets.specs.Reading.{readChip, readAlone, listed, writesFrom, nthWrite}
+use Rattle.packets.specs.Cursor.{cursorAt}
 use Rattle.packets.specs.declared.reader.Outcome.{Outcome}
 use Rattle.packets.specs.declared.reader.Outcome.the-variants.{Loaded, Iprog, Stuck}
 use Rattle.packets.specs.declared.chip.BootAnswer.{BootAnswer}
@@ -46,10 +47,6 @@ aloneCase refused accepted (Stuck place) = refused 5 place
 abbrev pub askImage {ℓ} : {A : Type ℓ} → ℕ → (ℕ → ℕ → A) → (ℕ → ℕ → ℕ → A) → List ℕ → A
 askImage longest refused accepted image =
     ask (imageLength longest (length image)) (refused 4 0) (aloneCase refused accepted (readAlone image))
-
--- a cursor before the first of so many writes
-abbrev pub cursorAt : ℕ → ℕ → Cursor
-cursorAt from writes = record { at = from; register = 0; left = 0; remaining = writes }
 
 -- a cursor before the first write that a reading lists
 unfoldable pub cursorOf : Outcome → Cursor

@@ -12,6 +12,10 @@ use Rattle.packets.specs.declared.writes.Cursor.{Cursor}
 use Rattle.packets.specs.declared.writes.CursorStep.{CursorStep}
 use Rattle.packets.specs.declared.writes.CursorStep.the-variants.{Wrote, Done}
 
+-- a cursor before the first of so many writes of the packets from a place on
+abbrev pub cursorAt : ℕ → ℕ → Cursor
+cursorAt from writes = record { at = from; register = 0; left = 0; remaining = writes }
+
 -- the words from where a cursor is
 abbrev pub traceAt : List ℕ → Cursor → Trace
 traceAt bytes c = trace (words (drop (c .at) bytes)) (c .at) (modeOf (c .left) (c .register) Other)

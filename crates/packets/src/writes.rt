@@ -3,7 +3,7 @@ ghost use mathlib.Core.Path.{_≡_};
 ghost use Prim.Native.Nat.{_+_, _≤_, _<_};
 ghost use lib.ListN.{length};
 ghost use Rattle.packets.specs.Reading.{nthWrite, writesFrom};
-ghost use Rattle.packets.specs.Cursor.{rest, stepOf, told, afterWrite};
+ghost use Rattle.packets.specs.Cursor.{cursorAt, rest, stepOf, told, afterWrite};
 use crate::header::{Before, Effect, effect_of};
 use crate::walk::{Walk, Walked, follow, from_sync};
 
@@ -44,7 +44,7 @@ pub enum Listing {
 
 impl Cursor {
     pub(crate) fn new(from: usize, remaining: usize) -> Self
-        ensures { λ r. ⌜ (r .at ≡ from) × (r .register ≡ 0) × (r .left ≡ 0) × (r .remaining ≡ remaining) ⌝ }
+        ensures { λ r. ⌜ r ≡ cursorAt from remaining ⌝ }
     {
         Cursor {
             at: from,

@@ -1,74 +1,90 @@
+-- `walk::data_step` meets its contract: the first data word that ends or jumps, the wanted one, too few words, or the whole packet.
+use Prim.Native.Nat.{ℕ, _+_, _-_, _*_, _/_, _<_, _≤_, min}
+use mathlib.Core.Path.{_≡_, refl, sym, ap, _∙_}
+use native.Mathlib.Omega.{arith}
+use lib.ListN.{length, getD, drop}
+use Rattle.packets.specs.Framing.{words}
+use Rattle.packets.specs.Packet.{effectOf}
+use Rattle.packets.specs.Walk.{resume, Moved}
+use Rattle.packets.specs.declared.header.Effect.the-variants.{GoesOn}
+use Rattle.packets.specs.declared.walk.Finish.{Finish}
+use Rattle.packets.specs.declared.walk.Walked.the-variants.{Finished}
+use Rattle.packets.proofs.FramingLaws.{room, word-after}
+use Rattle.packets.proofs.WalkLaws.{data-short, data-past, data-reached, data-end, packet-moved}
 use borrow.Author.Needs.{needs}
 use Rattle.packets.proofs.walk.data_step.Statement.{statement}
 use Rattle.packets.proofs.walk.data_step.Tie as tie
-use Rattle.packets.proofs.walk.data_step.Reads as reads
-use Rattle.packets.proofs.walk.data_step.Lts as lts
-use Rattle.packets.proofs.framing.word_at.Reads as word-at-reads
-use Rattle.packets.proofs.framing.words_from.Reads as words-from-reads
-use Rattle.packets.proofs.walk.after_packet.Reads as after-packet-reads
-use Rattle.packets.proofs.walk.ending.Reads as ending-reads
-use Rattle.packets.proofs.walk.quiet.Reads as quiet-reads
-use Rattle.packets.proofs.walk.smaller.Reads as smaller-reads
 
--- src/walk.rt:166:9
+-- the numbers that the step goes by: the whole words from its place on, those of them in the packet, those of these before the wanted one, and how many of those let the reading go on
+facts : (c : tie.After-quiet) →
+    (length (words (drop (c .before .before .before .before .before .args .w .at) (c .before .before .before .before .before .args .s .now))) ≡ c .before .before .before .words-from .result)
+    × (4 * c .before .before .before .words-from .result ≤ length (c .before .before .before .before .before .args .s .now) - c .before .before .before .before .before .args .w .at)
+    × (c .before .before .smaller .result ≡ min (c .before .before .before .before .before .args .w .left) (c .before .before .before .words-from .result))
+    × (c .before .smaller2 .result ≡ min (c .before .before .smaller .result) (c .before .before .before .before .before .args .w .skip))
+    × (c .quiet .result ≤ c .before .smaller2 .result)
+facts c =
+    let e = c .before .before .before .words-from .ensures in
+    (sym e, omega (arith, e, room (c .before .before .before .before .before .args .s .now) (c .before .before .before .before .before .args .w .at)), c .before .before .smaller .ensures, c .before .smaller2 .ensures, c .quiet .ensures .0)
+
 words-from-requires : tie.Need-words-from-requires
 words-from-requires c κs = search needs
 
--- src/walk.rt:167:9
 smaller-requires : tie.Need-smaller-requires
 smaller-requires c κs = search needs
 
--- src/walk.rt:168:9
 smaller-requires-2 : tie.Need-smaller-requires-2
 smaller-requires-2 c κs = search needs
 
--- src/walk.rt:169:9
 quiet-requires : tie.Need-quiet-requires
 quiet-requires c κs = search needs
 
--- src/walk.rt:171:47
 ending-requires : tie.Need-ending-requires
-ending-requires c κs = ?
+ending-requires c κs = let f = facts (c .before) in (omega arith, c .before .before .before .before .before .before .pre .1)
 
--- src/walk.rt:171:9
 returns : tie.Need-returns
-returns c = ?
+unfolding resume Moved
+returns c = let f = facts (c .before .before) in
+    (ap (λ (e : Finish). Finished e) (c .ending .ensures)
+    ∙ data-end (c .before .before .before .before .before .before .before .args .s .now) (c .before .before .before .before .before .before .before .args .w) (c .before .before .before .before .before .before .before .pre .0) (c .before .before .quiet .result) (omega arith) (omega arith) (omega arith) (c .before .before .quiet .ensures .1 .0) (c .before .before .quiet .ensures .1 .1 (c .before .if1 .taken)),
+    tt)
 
--- src/walk.rt:174:26
 mul-place : tie.Need-mul-place
-mul-place c = ?
+mul-place c = let f = facts (c .before .before) in omega (arith, c .before .before .before .before .before .before .before .good)
 
--- src/walk.rt:174:21
 add-place : tie.Need-add-place
-add-place c = ?
+add-place c = let f = facts (c .before .before) in omega (arith, c .before .before .before .before .before .before .before .good)
 
--- src/walk.rt:177:19
 word-at-requires : tie.Need-word-at-requires
-word-at-requires c κs = ?
+word-at-requires c κs = let f = facts (c .before .before) in omega arith
 
--- src/walk.rt:180:20
 sub-left : tie.Need-sub-left
 sub-left c = search needs
 
--- src/walk.rt:180:20
 sub-left-2 : tie.Need-sub-left-2
 sub-left-2 c = search needs
 
--- src/walk.rt:181:9
 returns-2 : tie.Need-returns-2
-returns-2 c = ?
+unfolding resume Moved
+returns-2 c = let f = facts (c .before .before .before .before) in
+    let e : c .before .before .before .before .before .smaller2 .result ≡ c .before .before .before .before .before .before .before .before .before .args .w .skip = omega arith in
+    (rw (c .before .word-at .ensures ∙ sym (word-after (c .before .before .before .before .before .before .before .before .before .args .s .now) (c .before .before .before .before .before .before .before .before .before .args .w .at) (c .before .before .before .before .before .smaller2 .result)), e)
+    (data-reached (c .before .before .before .before .before .before .before .before .before .args .s .now) (c .before .before .before .before .before .before .before .before .before .args .w) (c .before .before .before .before .before .before .before .before .before .pre .0) (omega arith) (omega arith) (λ i h. c .before .before .before .before .quiet .ensures .1 .0 i (omega arith))),
+    tt)
 
--- src/walk.rt:184:9
 returns-3 : tie.Need-returns-3
-returns-3 c = ?
+unfolding resume Moved
+returns-3 c = let f = facts (c .before .before .before .before) in
+    (data-short (c .before .before .before .before .before .before .before .before .before .args .s .now) (c .before .before .before .before .before .before .before .before .before .args .w) (c .before .before .before .before .before .before .before .before .before .pre .0) (omega arith) (omega arith) (λ i h. c .before .before .before .before .quiet .ensures .1 .0 i (omega arith)), tt)
 
--- src/walk.rt:186:17
 after-packet-requires : tie.Need-after-packet-requires
-after-packet-requires c κs = ?
+after-packet-requires c κs = let f = facts (c .before .before .before .before) in (c .before .before .before .before .before .before .before .before .before .pre .0, omega arith, omega arith, c .before .before .before .before .before .before .before .before .before .pre .1)
 
--- src/walk.rt:160:1
 returns-4 : tie.Need-returns-4
-returns-4 c = ?
+unfolding resume
+returns-4 c = let f = facts (c .before .before .before .before .before) in
+    rw (c .after-packet .ensures)
+    (data-past (c .before .before .before .before .before .before .before .before .before .before .args .s .now) (c .before .before .before .before .before .before .before .before .before .before .args .w) (c .before .before .before .before .before .before .before .before .before .before .pre .0) (omega arith) (omega arith) (λ i h. c .before .before .before .before .before .quiet .ensures .1 .0 i (omega arith)),
+    packet-moved (c .before .before .before .before .before .before .before .before .before .before .args .s .now) (c .before .before .before .before .before .before .before .before .before .before .args .w) _ (c .before .before .before .before .before .before .before .before .before .before .pre .0) (omega arith) (c .before .before .before .before .before .before .before .before .before .before .pre .1))
 
 pub data-step-spec : {M : Type 1} → statement M
 data-step-spec =
