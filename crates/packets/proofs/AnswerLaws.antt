@@ -4,15 +4,22 @@ use mathlib.Core.Path.{_≡_, refl, sym, ap, _∙_}
 use mathlib.Core.Bool.{Bool, true, false}
 use mathlib.Core.List.{List}
 use native.Mathlib.Omega.{arith}
-use lib.ListN.{length}
+use lib.ListN.{length, take}
+use lib.Seq.{take-length}
+use native.Mathlib.Nat.{zero-add}
 use Rattle.packets.specs.Packet.{ask}
-use Rattle.packets.specs.Reading.{readAlone}
-use Rattle.packets.specs.Answers.{imageLength, longestImage, aloneCase, askImage, imageAnswer}
+use Rattle.packets.specs.Reading.{modeOf, traceFrom, finishFrom, writesFrom, readFrom, readChip, readAlone, listed, nthWrite}
+use Rattle.packets.specs.Cursor.{cursorAt, rest, stepOf, nthStep}
+use Rattle.packets.specs.Answers.{lengthAllowed, imageLength, longestImage, aloneCase, askImage, cursorOf, chipWrite, imageAnswer, imageWrite}
 use Rattle.packets.specs.declared.reader.Outcome.{Outcome}
 use Rattle.packets.specs.declared.reader.Outcome.the-variants.{Loaded, Iprog, Stuck}
+use Rattle.packets.specs.declared.walk.Finish.the-variants.{Ended}
+use Rattle.packets.specs.declared.writes.Write.{Write}
+use Rattle.packets.specs.declared.writes.WriteAnswer.the-variants.{Refused as WriteRefused}
 use Rattle.packets.specs.declared.image.ImageAnswer.{ImageAnswer}
 use Rattle.packets.specs.declared.image.ImageAnswer.the-variants.{Accepted, Refused}
-use Rattle.packets.proofs.ReadingLaws.{Proper, proper, alone-stays}
+use Rattle.packets.proofs.ReadingLaws.{counted, Proper, proper, alone-parts}
+use Rattle.packets.proofs.CursorLaws.{given, nth-step}
 
 -- what an image's answer comes to for one who asks more
 unfoldable pub onAnswer {ℓ} : {A : Type ℓ} → (ℕ → ℕ → A) → (ℕ → ℕ → ℕ → A) → ImageAnswer → A
@@ -29,6 +36,7 @@ by-answer refused accepted longest image = go (imageLength longest (length image
     case (Loaded sync end writes jumped) = refl
     case (Iprog place) = refl
     case (Stuck place) = refl
+
     go : (b : Bool) (o : Outcome) → onAnswer refused accepted (ask b (Refused 4 0) (aloneCase Refused Accepted o)) ≡ ask b (refused 4 0) (aloneCase refused accepted o)
     go true o = case o
     go false o = refl
@@ -41,7 +49,7 @@ accepted-reads longest image sync end writes e = go (imageLength longest (length
     go : (b : Bool) (o : Outcome) → readAlone image ≡ o → ask b (Refused 4 0) (aloneCase Refused Accepted o) ≡ Accepted sync end writes → readAlone image ≡ Loaded sync end writes false
     go false o r q = let z : _≡_ {A = ℕ} 0 1 = cc in absurd (omega arith)
     go true (Loaded a b n after) r q =
-        let f : after ≡ false = alone-stays false image 0 a b n after r in
+        let f : after ≡ false = alone-parts false image 0 a b n after r .2 in
         r ∙ cc
     go true (Iprog place) r q = let z : _≡_ {A = ℕ} 0 1 = cc in absurd (omega arith)
     go true (Stuck place) r q = let z : _≡_ {A = ℕ} 0 1 = cc in absurd (omega arith)
@@ -50,3 +58,35 @@ accepted-reads longest image sync end writes e = go (imageLength longest (length
 pub accepted-sync : (longest : ℕ) (image : List ℕ) (sync end writes : ℕ) → askImage longest Refused Accepted image ≡ Accepted sync end writes → sync + 4 ≤ length image
 unfolding Proper
 accepted-sync longest image sync end writes e = (rw (accepted-reads longest image sync end writes e) at (proper 0 false image 0 (omega arith))) .0
+
+counted-rest : (s : List ℕ) (sync end writes : ℕ) → finishFrom s (sync + 4) ≡ Ended end writes → rest s (cursorAt (sync + 4) writes) ≡ writesFrom s (sync + 4)
+unfolding modeOf
+counted-rest s sync end writes e =
+    let n : writes ≡ length (writesFrom s (sync + 4)) = counted (traceFrom s (sync + 4)) 0 0 end writes e ∙ zero-add (length (writesFrom s (sync + 4))) in
+    ap (λ (k : ℕ). take k (writesFrom s (sync + 4))) n ∙ take-length (writesFrom s (sync + 4))
+
+-- A cursor opened on a reading has to give what the reading lists.
+pub opened-rest : (left : ℕ) (jumped : Bool) (s : List ℕ) (from : ℕ) → from ≤ length s → rest s (cursorOf (readFrom left jumped s from)) ≡ listed s (readFrom left jumped s from)
+unfolding Proper cursorOf listed
+opened-rest left jumped s from l = go (readFrom left jumped s from) (proper left jumped s from l)
+  where
+    go : (o : Outcome) → Proper s o → rest s (cursorOf o) ≡ listed s o
+    go (Loaded sync end writes after) p = counted-rest s sync end writes (p .1)
+    go (Iprog place) p = refl
+    go (Stuck place) p = refl
+
+-- The k-th step of a cursor opened on a chip, or on an image, gives the k-th write of the chip, or of the image read alone.
+pub chip-steps : (chip : List ℕ) (k : ℕ) → lengthAllowed (length chip) ≡ true → given (nthStep chip k (stepOf chip (cursorOf (readChip chip)))) ≡ chipWrite chip k
+unfolding chipWrite ask
+chip-steps chip k e =
+    nth-step k chip (cursorOf (readChip chip))
+    ∙ ap (λ (l : List Write). nthWrite l k) (opened-rest 1 false chip 0 (omega arith))
+    ∙ rw e refl
+
+pub image-steps : (image : List ℕ) (sync end writes k : ℕ) → imageAnswer image ≡ Accepted sync end writes → given (nthStep image k (stepOf image (cursorAt (sync + 4) writes))) ≡ imageWrite image k
+unfolding imageAnswer imageWrite onAnswer Proper
+image-steps image sync end writes k e =
+    let p = rw (accepted-reads longestImage image sync end writes e) at (proper 0 false image 0 (omega arith)) in
+    nth-step k image (cursorAt (sync + 4) writes)
+    ∙ ap (λ (l : List Write). nthWrite l k) (counted-rest image sync end writes (p .1))
+    ∙ (rw e at (by-answer WriteRefused (λ sync end writes. nthWrite (writesFrom image (sync + 4)) k) longestImage image))

@@ -78,7 +78,7 @@ unfolding find
 find-short [] p h = refl
 find-short (x ∷ xs) p h = rw (starts-short syncBytes (x ∷ xs) h, find) (find-short xs (p + 1) (omega arith))
 
-find-next : (xs : List ℕ) (p : ℕ) (x : ℕ) → starts syncBytes (x ∷ xs) ≡ false → find (x ∷ xs) p ≡ find xs (p + 1)
+pub find-next : (xs : List ℕ) (p : ℕ) (x : ℕ) → starts syncBytes (x ∷ xs) ≡ false → find (x ∷ xs) p ≡ find xs (p + 1)
 unfolding find
 find-next xs p x e = rw (e, find)
 

@@ -113,16 +113,22 @@ proper-jump (suc left) s place to = go (ltb to (length s)) refl (proper-jump lef
 pub proper : (left : ℕ) (jumped : Bool) (s : List ℕ) (from : ℕ) → from ≤ length s → Proper s (readFrom left jumped s from)
 proper left jumped s from l = proper-search (jump left s) jumped s from (proper-jump left s) l
 
--- With no jump to give, a reading that is Loaded has not jumped.
-pub alone-stays : (jumped : Bool) (s : List ℕ) (from sync end writes : ℕ) (after : Bool) → readFrom 0 jumped s from ≡ Loaded sync end writes after → after ≡ jumped
+-- What a reading alone that is Loaded comes from: a sync word found, packets that end, and no jump.
+pub alone-parts : (jumped : Bool) (s : List ℕ) (from sync end writes : ℕ) (after : Bool) → readFrom 0 jumped s from ≡ Loaded sync end writes after →
+    (find (drop from s) from ≡ At sync) × (finishFrom s (sync + 4) ≡ Ended end writes) × (after ≡ jumped)
 unfolding jump
-alone-stays jumped s from sync end writes after h = go (find (drop from s) from) refl
+alone-parts jumped s from sync end writes after h = go (find (drop from s) from) refl
   where
-    end-of : (at : ℕ) → find (drop from s) from ≡ At at → (f : Finish) → finishFrom s (at + 4) ≡ f → after ≡ jumped
-    end-of at e (Ended a b) g = let q = sym h ∙ search-found (jump 0 s) jumped s from at e ∙ read-ended (jump 0 s) jumped s at a b g in cc
+    end-of : (at : ℕ) → find (drop from s) from ≡ At at → (f : Finish) → finishFrom s (at + 4) ≡ f →
+        (find (drop from s) from ≡ At sync) × (finishFrom s (sync + 4) ≡ Ended end writes) × (after ≡ jumped)
+    end-of at e (Ended a b) g =
+        let q = sym h ∙ search-found (jump 0 s) jumped s from at e ∙ read-ended (jump 0 s) jumped s at a b g in
+        let k : at ≡ sync = cc in
+        (e ∙ cc, rw k at g ∙ cc, cc)
     end-of at e (Iprog a b) g = let q = sym h ∙ search-found (jump 0 s) jumped s from at e ∙ read-jump (jump 0 s) jumped s at a b g in let z : _≡_ {A = ℕ} 0 1 = cc in absurd (omega arith)
     end-of at e (Fault a) g = let q = sym h ∙ search-found (jump 0 s) jumped s from at e ∙ read-fault (jump 0 s) jumped s at a g in let z : _≡_ {A = ℕ} 0 1 = cc in absurd (omega arith)
     end-of at e Short g = let q = sym h ∙ search-found (jump 0 s) jumped s from at e ∙ read-short (jump 0 s) jumped s at g in let z : _≡_ {A = ℕ} 0 1 = cc in absurd (omega arith)
-    go : (f : Found) → find (drop from s) from ≡ f → after ≡ jumped
+
+    go : (f : Found) → find (drop from s) from ≡ f → (find (drop from s) from ≡ At sync) × (finishFrom s (sync + 4) ≡ Ended end writes) × (after ≡ jumped)
     go (At at) e = end-of at e (finishFrom s (at + 4)) refl
     go NoSync e = let q = sym h ∙ search-none (jump 0 s) jumped s from e in let z : _≡_ {A = ℕ} 0 1 = cc in absurd (omega arith)

@@ -27,19 +27,10 @@ use Rattle.packets.specs.declared.walk.Walked.the-variants.{Reached, Fin
 use Rattle.packets.specs.declared.writes.Write.{Write}
 use Rattle.packets.specs.declared.writes.WriteAnswer.{WriteAnswer}
 use Rattle.packets.specs.declared.writes.WriteAnswer.the-variants.{Found, Nothing}
+use Rattle.packets.proofs.TraceLaws.{trace-header, trace-fault, trace-data}
 use Rattle.packets.proofs.FramingLaws.{words-cons, words-none, words-on, word-after, room}
 
 -- One header.
-
-pub trace-header : (word : ℕ) (ws : List ℕ) (p : ℕ) (before : Before) (m : Mode) → afterHeader (headOf word) before ≡ some m →
-    trace (word ∷ ws) p (header before) ≡ trace ws (p + 4) m
-unfolding trace
-trace-header word ws p before m e = rw (e, trace)
-
-pub trace-fault : (word : ℕ) (ws : List ℕ) (p : ℕ) (before : Before) → afterHeader (headOf word) before ≡ none →
-    trace (word ∷ ws) p (header before) ≡ faulty p
-unfolding trace
-trace-fault word ws p before e = rw (e, trace)
 
 module _ (s : List ℕ) (w : Walk) (none-left : w .left ≡ 0) where
   at-header : walkOf s w ≡ walked (trace (words (drop (w .at) s)) (w .at) (header (w .before))) (w .skip) (w .writes) (w .wbstar)
@@ -64,11 +55,6 @@ module _ (s : List ℕ) (w : Walk) (none-left : w .left ≡ 0) where
       sym (at-header ∙ rw (words-cons s (w .at) h) (ap (λ (t : Trace). walked t (w .skip) (w .writes) (w .wbstar)) (trace-fault _ _ _ _ e)))
 
 -- One data word.
-
-pub trace-data : (word : ℕ) (ws : List ℕ) (p register left : ℕ) → effectOf register word ≡ GoesOn →
-    trace (word ∷ ws) p (payload register left) ≡ wrote (record { register = register; word = word; place = p }) left (trace ws (p + 4) (modeOf left register Other))
-unfolding trace
-trace-data word ws p register left e = rw (e, trace)
 
 -- The last WBSTAR word after j data words of a packet whose register is WBSTAR, or is not.
 unfoldable pub kept : Bool → List ℕ → ℕ → ℕ → ℕ

@@ -27,10 +27,11 @@ rest bytes c = take (c .remaining) (listOf (traceAt bytes c))
 -- the cursor after a write, of which so many data words of its packet are left; nothing is to come after DESYNC or IPROG
 unfoldable pub afterWrite : Write → ℕ → ℕ → Cursor
 afterWrite write left remaining = record {
-    at = write .place + 4;
-    register = write .register;
-    left = left;
-    remaining = elim (effectOf (write .register) (write .word)) [ GoesOn ↦ remaining | Desync ↦ 0 | Iprog ↦ 0 ] }
+  at = write .place + 4;
+  register = write .register;
+  left = left;
+  remaining = elim (effectOf (write .register) (write .word)) [ GoesOn ↦ remaining | Desync ↦ 0 | Iprog ↦ 0 ];
+}
 
 unfoldable pub firstOf : Trace → ℕ → CursorStep
 firstOf (wrote write left more) remaining = Wrote write (afterWrite write left remaining)

@@ -3,6 +3,7 @@ use Prim.Native.Nat.{ℕ, _+_, _*_}
 use mathlib.Core.Bool.{Bool, true, false, _&&_}
 use mathlib.Core.List.{List, [], _∷_}
 use lib.Dec.{eqb}
+use lib.ListN.{getD, drop}
 use Rattle.packets.specs.declared.framing.Found.{Found}
 use Rattle.packets.specs.declared.framing.Found.the-variants.{At, Nothing}
 
@@ -28,3 +29,7 @@ words (a ∷ []) = []
 words (a ∷ b ∷ []) = []
 words (a ∷ b ∷ c ∷ []) = []
 words (a ∷ b ∷ c ∷ d ∷ bytes) = ((a * 256 + b) * 65536 + (c * 256 + d)) ∷ words bytes
+
+-- the word at a place
+abbrev pub wordAt : List ℕ → ℕ → ℕ
+wordAt bytes place = getD (words (drop place bytes)) 0 0

@@ -37,11 +37,12 @@ unfoldable pub type1Of : ℕ → Header
 type1Of word =
     ask (eqb (field word 18 9) 0) Fault
     (ask (eqb (field word 11 2) 0) Fault
-    (elim (eqb (field word 27 2) 2)
-    [ true ↦ ask (registerOk (field word 13 5)) Fault (Type1 (field word 13 5) (word % 2 ^ 11))
-    | false ↦ ask (eqb (field word 27 2) 0) Fault
-      (ask (eqb (field word 13 5) 0) Fault
-      (ask (eqb (word % 2 ^ 11) 0) Fault Nop)) ]))
+    (elim (eqb (field word 27 2) 2) [
+      | true ↦ ask (registerOk (field word 13 5)) Fault (Type1 (field word 13 5) (word % 2 ^ 11))
+      | false ↦ ask (eqb (field word 27 2) 0) Fault
+          (ask (eqb (field word 13 5) 0) Fault
+          (ask (eqb (word % 2 ^ 11) 0) Fault Nop))
+    ]))
 
 -- Type 2: operation 10, and the count is in bits 26 to 0.
 unfoldable pub type2Of : ℕ → Header

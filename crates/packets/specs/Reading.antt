@@ -2,7 +2,7 @@
 use Prim.Native.Nat.{ℕ, zero, suc, _+_, _%_, _^_}
 use mathlib.Core.Bool.{Bool, true, false}
 use mathlib.Core.Option.{Option, some, none}
-use mathlib.Core.List.{List, [], _∷_}
+use mathlib.Core.List.{List, [], _∷_, map}
 use lib.ListN.{length, drop}
 use lib.Dec.{eqb, ltb}
 use Rattle.packets.specs.Framing.{find, words}
@@ -54,10 +54,11 @@ trace (word ∷ more) place (header before) =
     elim (afterHeader (headOf word) before) [ none ↦ faulty place | some mode ↦ trace more (place + 4) mode ]
 trace (word ∷ more) place (payload register left) =
     wrote (record { register = register; word = word; place = place }) left
-    (elim (effectOf register word)
-    [ GoesOn ↦ trace more (place + 4) (modeOf left register Other)
-    | Desync ↦ ended (place + 4)
-    | Jumps ↦ jumps place ])
+    (elim (effectOf register word) [
+      | GoesOn ↦ trace more (place + 4) (modeOf left register Other)
+      | Desync ↦ ended (place + 4)
+      | Jumps ↦ jumps place
+    ])
 
 -- the last WBSTAR word
 abbrev pub lastWbstar : Write → ℕ → ℕ
@@ -96,11 +97,12 @@ writesFrom bytes from = listOf (traceFrom bytes from)
 -- What a reading from a sync comes to, given what an IPROG at a place with a target does. A word not complete before the end is a fault at the length read.
 unfoldable pub readAt : (ℕ → ℕ → Outcome) → Bool → List ℕ → ℕ → Outcome
 readAt onJump jumped bytes sync =
-    elim (finishFrom bytes (sync + 4))
-    [ Ended end writes ↦ Loaded sync end writes jumped
-    | Iprog place target ↦ onJump place target
-    | Fault place ↦ Stuck place
-    | Short ↦ Stuck (length bytes) ]
+    elim (finishFrom bytes (sync + 4)) [
+      | Ended end writes ↦ Loaded sync end writes jumped
+      | Iprog place target ↦ onJump place target
+      | Fault place ↦ Stuck place
+      | Short ↦ Stuck (length bytes)
+    ]
 
 -- The search hands over to reading; no sync is a fault at the length read.
 unfoldable pub searchFrom : (ℕ → ℕ → Outcome) → Bool → List ℕ → ℕ → Outcome
@@ -130,6 +132,10 @@ unfoldable pub listed : List ℕ → Outcome → List Write
 listed bytes (Loaded sync end writes jumped) = writesFrom bytes (sync + 4)
 listed bytes (NoJump place) = []
 listed bytes (Stuck place) = []
+
+-- The writes places apart: two readings load the same, whole, where these agree.
+abbrev pub contents : List Write → List (ℕ × ℕ)
+contents writes = map (λ w. (w .register, w .word)) writes
 
 -- the i-th, counted from 0, or that there is none
 unfoldable pub nthWrite : List Write → ℕ → WriteAnswer

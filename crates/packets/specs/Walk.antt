@@ -38,23 +38,25 @@ startOf from skip = record { at = from; register = 0; left = 0; before = Other; 
 
 abbrev pub onward : Walk → ℕ → ℕ → Before → Walk
 onward w register left before = record {
-    at = w .at + 4;
-    register = register;
-    left = left;
-    before = before;
-    skip = w .skip;
-    writes = w .writes;
-    wbstar = w .wbstar }
+  at = w .at + 4;
+  register = register;
+  left = left;
+  before = before;
+  skip = w .skip;
+  writes = w .writes;
+  wbstar = w .wbstar;
+}
 
 abbrev pub passed : List ℕ → Walk → Walk
 passed s w = record {
-    at = w .at + 4 * w .left;
-    register = 0;
-    left = 0;
-    before = Other;
-    skip = w .skip - w .left;
-    writes = w .writes + w .left;
-    wbstar = elim (eqb (w .register) WBSTAR) [ true ↦ getD (words (drop (w .at) s)) (w .left - 1) 0 | false ↦ w .wbstar ] }
+  at = w .at + 4 * w .left;
+  register = 0;
+  left = 0;
+  before = Other;
+  skip = w .skip - w .left;
+  writes = w .writes + w .left;
+  wbstar = elim (eqb (w .register) WBSTAR) [ true ↦ getD (words (drop (w .at) s)) (w .left - 1) 0 | false ↦ w .wbstar ];
+}
 
 -- the end that a data word at a place brings, after so many writes
 unfoldable pub endingOf : ℕ → ℕ → ℕ → Effect → Finish

@@ -1,8 +1,12 @@
 // What a chip loads: the calls on a chip's bytes. They ask question 1 of its length, and no more.
 ghost use mathlib.Core.Path.{_≡_};
 ghost use Rattle.packets.specs.Answers.{lengthAllowed, bootAnswer, chipWrite, chipListing};
-use crate::reader::{Outcome, search};
-use crate::writes::{Cursor, Listing, WriteAnswer, nth_from};
+use crate::reader::Outcome;
+use crate::reader::search;
+use crate::writes::Cursor;
+use crate::writes::Listing;
+use crate::writes::WriteAnswer;
+use crate::writes::nth_from;
 
 // What a chip loads, where it is stuck, or a refusal.
 pub enum BootAnswer {
@@ -12,8 +16,13 @@ pub enum BootAnswer {
         writes: usize,
         jumped: bool,
     },
-    Stuck { place: usize },
-    Refused { number: u32, place: usize },
+    Stuck {
+        place: usize,
+    },
+    Refused {
+        number: u32,
+        place: usize,
+    },
 }
 
 // Is this a chip's length? A multiple of 4,096, from 16,384 to 16,777,216.
@@ -34,7 +43,10 @@ pub fn boot(chip: &[u8]) -> BootAnswer
     ensures { λ r. ⌜ r ≡ bootAnswer (now (chip .entry)) ⌝ }
 {
     if !length_allowed(chip.len()) {
-        return BootAnswer::Refused { number: 1, place: 0 };
+        return BootAnswer::Refused {
+            number: 1,
+            place: 0,
+        };
     }
     let outcome = search(chip, 0, 1, false);
     match outcome {
@@ -59,10 +71,19 @@ pub fn write(chip: &[u8], i: usize) -> WriteAnswer
     ensures { λ r. ⌜ r ≡ chipWrite (now (chip .entry)) i ⌝ }
 {
     if !length_allowed(chip.len()) {
-        return WriteAnswer::Refused { number: 1, place: 0 };
+        return WriteAnswer::Refused {
+            number: 1,
+            place: 0,
+        };
     }
     let outcome = search(chip, 0, 1, false);
-    let Outcome::Loaded { sync, end: _, writes: _, jumped: _ } = outcome else {
+    let Outcome::Loaded {
+        sync,
+        end: _,
+        writes: _,
+        jumped: _,
+    } = outcome
+    else {
         return WriteAnswer::Nothing;
     };
     nth_from(chip, sync + 4, i)
@@ -73,10 +94,19 @@ pub fn writes(chip: &[u8]) -> Listing
     ensures { λ r. ⌜ r ≡ chipListing (now (chip .entry)) ⌝ }
 {
     if !length_allowed(chip.len()) {
-        return Listing::Refused { number: 1, place: 0 };
+        return Listing::Refused {
+            number: 1,
+            place: 0,
+        };
     }
     let outcome = search(chip, 0, 1, false);
-    let Outcome::Loaded { sync, end: _, writes, jumped: _ } = outcome else {
+    let Outcome::Loaded {
+        sync,
+        end: _,
+        writes,
+        jumped: _,
+    } = outcome
+    else {
         return Listing::Open(Cursor::new(0, 0));
     };
     Listing::Open(Cursor::new(sync + 4, writes))

@@ -2,7 +2,7 @@
 ghost use mathlib.Core.Path.{_≡_};
 ghost use Prim.Native.Nat.{ℕ, _+_, _-_, _<_, _≤_};
 ghost use lib.ListN.{length, getD, drop};
-ghost use Rattle.packets.specs.Framing.{syncBytes, find, words};
+ghost use Rattle.packets.specs.Framing.{syncBytes, find, words, wordAt};
 
 pub(crate) const SYNC: [u8; 4] = [0xAA, 0x99, 0x55, 0x66];
 
@@ -65,7 +65,7 @@ fn wide(b: u8) -> u32
 // The word at `at`, high byte first.
 pub(crate) fn word_at(s: &[u8], at: usize) -> u32
     requires { ⌜ at + 4 ≤ length (now s) ⌝ }
-    ensures { λ r. ⌜ r ≡ getD (words (drop at (now (s .entry)))) 0 0 ⌝ }
+    ensures { λ r. ⌜ r ≡ wordAt (now (s .entry)) at ⌝ }
 {
     let high = wide(s[at]) * 256 + wide(s[at + 1]);
     let low = wide(s[at + 2]) * 256 + wide(s[at + 3]);

@@ -3,8 +3,11 @@ ghost use mathlib.Core.Path.{_≡_};
 ghost use Rattle.packets.specs.Packet.{registerOk, type1Of, type2Of, headOf, effectOf};
 
 pub(crate) const CMD: u32 = 4;
+
 pub(crate) const WBSTAR: u32 = 16;
+
 const DESYNC: u32 = 0x0000_000D;
+
 const IPROG: u32 = 0x0000_000F;
 
 // What a word says as a header.

@@ -2,8 +2,12 @@
 // Loaded: with no jump to give, an IPROG is refused with 6, every other fault with 5.
 ghost use mathlib.Core.Path.{_≡_};
 ghost use Rattle.packets.specs.Answers.{imageLength, longestImage, aloneCase, imageAnswer, imageWrite, imageListing};
-use crate::reader::{Outcome, search};
-use crate::writes::{Cursor, Listing, WriteAnswer, nth_from};
+use crate::reader::Outcome;
+use crate::reader::search;
+use crate::writes::Cursor;
+use crate::writes::Listing;
+use crate::writes::WriteAnswer;
+use crate::writes::nth_from;
 
 // What an image loads by itself, or a refusal.
 pub enum ImageAnswer {
@@ -12,7 +16,10 @@ pub enum ImageAnswer {
         end: usize,
         writes: usize,
     },
-    Refused { number: u32, place: usize },
+    Refused {
+        number: u32,
+        place: usize,
+    },
 }
 
 fn length_allowed(length: usize) -> bool
@@ -29,7 +36,12 @@ fn number_of(outcome: Outcome) -> u32
     ensures { λ r. ⌜ r ≡ aloneCase (λ number place. number) (λ sync end writes. 0) outcome ⌝ }
 {
     match outcome {
-        Outcome::Loaded { sync: _, end: _, writes: _, jumped: _ } => 0,
+        Outcome::Loaded {
+            sync: _,
+            end: _,
+            writes: _,
+            jumped: _,
+        } => 0,
         Outcome::Iprog { place: _ } => 6,
         Outcome::Stuck { place: _ } => 5,
     }
@@ -40,7 +52,12 @@ fn place_of(outcome: Outcome) -> usize
     ensures { λ r. ⌜ r ≡ aloneCase (λ number place. place) (λ sync end writes. 0) outcome ⌝ }
 {
     match outcome {
-        Outcome::Loaded { sync: _, end: _, writes: _, jumped: _ } => 0,
+        Outcome::Loaded {
+            sync: _,
+            end: _,
+            writes: _,
+            jumped: _,
+        } => 0,
         Outcome::Iprog { place } => place,
         Outcome::Stuck { place } => place,
     }
@@ -51,10 +68,19 @@ pub fn check(image: &[u8]) -> ImageAnswer
     ensures { λ r. ⌜ r ≡ imageAnswer (now (image .entry)) ⌝ }
 {
     if !length_allowed(image.len()) {
-        return ImageAnswer::Refused { number: 4, place: 0 };
+        return ImageAnswer::Refused {
+            number: 4,
+            place: 0,
+        };
     }
     let outcome = search(image, 0, 0, false);
-    let Outcome::Loaded { sync, end, writes, jumped: _ } = outcome else {
+    let Outcome::Loaded {
+        sync,
+        end,
+        writes,
+        jumped: _,
+    } = outcome
+    else {
         return ImageAnswer::Refused {
             number: number_of(outcome),
             place: place_of(outcome),
@@ -69,7 +95,11 @@ pub fn write(image: &[u8], i: usize) -> WriteAnswer
 {
     let answer = check(image);
     match answer {
-        ImageAnswer::Accepted { sync, end: _, writes: _ } => nth_from(image, sync + 4, i),
+        ImageAnswer::Accepted {
+            sync,
+            end: _,
+            writes: _,
+        } => nth_from(image, sync + 4, i),
         ImageAnswer::Refused { number, place } => WriteAnswer::Refused { number, place },
     }
 }
@@ -80,9 +110,11 @@ pub fn writes(image: &[u8]) -> Listing
 {
     let answer = check(image);
     match answer {
-        ImageAnswer::Accepted { sync, end: _, writes } => {
-            Listing::Open(Cursor::new(sync + 4, writes))
-        }
+        ImageAnswer::Accepted {
+            sync,
+            end: _,
+            writes,
+        } => { Listing::Open(Cursor::new(sync + 4, writes)) }
         ImageAnswer::Refused { number, place } => Listing::Refused { number, place },
     }
 }

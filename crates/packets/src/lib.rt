@@ -3,10 +3,10 @@
 // the public calls: `chip` for a chip's bytes, `image` for an image by itself, and `writes` for
 // what both list.
 
+pub mod chip;
 mod framing;
 mod header;
-mod walk;
-mod reader;
-pub mod writes;
-pub mod chip;
 pub mod image;
+mod reader;
+mod walk;
+pub mod writes;

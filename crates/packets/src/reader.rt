@@ -4,8 +4,10 @@ ghost use mathlib.Core.Path.{_≡_};
 ghost use Prim.Native.Nat.{_+_, _≤_};
 ghost use lib.ListN.{length};
 ghost use Rattle.packets.specs.Reading.{readFrom, readAt, jump};
-use crate::framing::{Found, find_sync};
-use crate::walk::{Finish, finish_from};
+use crate::framing::Found;
+use crate::framing::find_sync;
+use crate::walk::Finish;
+use crate::walk::finish_from;
 
 // What a reading comes to.
 pub(crate) enum Outcome {
@@ -17,9 +19,13 @@ pub(crate) enum Outcome {
         jumped: bool,
     },
     // IPROG was met with no jump left.
-    Iprog { place: usize },
+    Iprog {
+        place: usize,
+    },
     // Every other fault.
-    Stuck { place: usize },
+    Stuck {
+        place: usize,
+    },
 }
 
 pub(crate) fn search(s: &[u8], from: usize, jumps: u32, jumped: bool) -> Outcome

@@ -8,8 +8,15 @@ ghost use Rattle.packets.specs.Packet.{effectOf};
 ghost use Rattle.packets.specs.declared.header.Effect.the-variants.{GoesOn};
 ghost use Rattle.packets.specs.Reading.{finishFrom};
 ghost use Rattle.packets.specs.Walk.{walkOf, startOf, onward, passed, endingOf, resume, Moved, Inside};
-use crate::framing::{word_at, words_from};
-use crate::header::{Before, Effect, Header, CMD, WBSTAR, effect_of, header_of};
+use crate::framing::word_at;
+use crate::framing::words_from;
+use crate::header::Before;
+use crate::header::CMD;
+use crate::header::Effect;
+use crate::header::Header;
+use crate::header::WBSTAR;
+use crate::header::effect_of;
+use crate::header::header_of;
 use crate::writes::Write;
 
 // How a reading of packets ends.
@@ -145,7 +152,11 @@ fn after_packet(s: &[u8], w: Walk) -> Walk
     ensures { λ r. ⌜ r ≡ passed (now (s .entry)) w ⌝ }
 {
     let at = w.at + 4 * w.left;
-    let wbstar = if w.register == WBSTAR { word_at(s, at - 4) } else { w.wbstar };
+    let wbstar = if w.register == WBSTAR {
+        word_at(s, at - 4)
+    } else {
+        w.wbstar
+    };
     Walk {
         at,
         register: 0,
@@ -195,7 +206,11 @@ pub(crate) fn follow(s: &[u8], start: Walk) -> Walked
     let mut w = start;
     loop {
         let left = w.left;
-        let step = if left == 0 { header_step(s, w) } else { data_step(s, w) };
+        let step = if left == 0 {
+            header_step(s, w)
+        } else {
+            data_step(s, w)
+        };
         match step {
             Stepped::On(next) => {
                 w = next;

@@ -4,8 +4,13 @@ ghost use Prim.Native.Nat.{_+_, _≤_, _<_};
 ghost use lib.ListN.{length};
 ghost use Rattle.packets.specs.Reading.{nthWrite, writesFrom};
 ghost use Rattle.packets.specs.Cursor.{cursorAt, rest, stepOf, told, afterWrite};
-use crate::header::{Before, Effect, effect_of};
-use crate::walk::{Walk, Walked, follow, from_sync};
+use crate::header::Before;
+use crate::header::Effect;
+use crate::header::effect_of;
+use crate::walk::Walk;
+use crate::walk::Walked;
+use crate::walk::follow;
+use crate::walk::from_sync;
 
 // One write: a data word, the register it goes to, and its place.
 pub struct Write {

@@ -80,20 +80,22 @@ search-again : tie.Need-search-again Inv-loop μ-loop Inv-search μ-search
 search-again c =
     let at = c .before .before .before .before .before .loop .at in
     let s = c .before .before .before .before .before .before .before .before .before .args .s .now in
-    let moved : at + c .skip-after .result ≤ length s = omega arith in
-    (moved,
-    sym (find-past s (c .skip-after .result) at moved
-    (passed s at (c .before .before .before .before .before .loop .left - 1) (c .skip-after .result) (omega arith) (c .before .before .if2 .taken) (c .skip-after .ensures .0 .1) (c .skip-after .ensures .1)))
-    ∙ rw (c .before .before .before .before .before .loop .inv .0) (c .before .before .before .before .before .before .before .search .inv .1))
+    let moved : at + c .skip-after .result ≤ length s = omega arith in (
+      moved,
+      sym (find-past s (c .skip-after .result) at moved
+          (passed s at (c .before .before .before .before .before .loop .left - 1) (c .skip-after .result) (omega arith) (c .before .before .if2 .taken) (c .skip-after .ensures .0 .1) (c .skip-after .ensures .1)))
+          ∙ rw (c .before .before .before .before .before .loop .inv .0) (c .before .before .before .before .before .before .before .search .inv .1),
+    )
 
 loop-less : tie.Need-loop-less Inv-loop μ-loop Inv-search μ-search
 loop-less c = omega arith
 
 loop-again : tie.Need-loop-again Inv-loop μ-loop Inv-search μ-search
-loop-again c =
-    (c .before .before .before .loop .inv .0,
-    omega arith,
-    downward _ (c .before .before .before .loop .left) (c .before .before .loop-test .taken) (c .if2 .left) (c .before .before .before .loop .inv .2))
+loop-again c = (
+  c .before .before .before .loop .inv .0,
+  omega arith,
+  downward _ (c .before .before .before .loop .left) (c .before .before .loop-test .taken) (c .if2 .left) (c .before .before .before .loop .inv .2),
+)
 
 returns : tie.Need-returns Inv-loop μ-loop Inv-search μ-search
 returns c =

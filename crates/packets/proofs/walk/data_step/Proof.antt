@@ -43,10 +43,11 @@ ending-requires c κs = let f = facts (c .before) in (omega arith, c .before .be
 
 returns : tie.Need-returns
 unfolding resume Moved
-returns c = let f = facts (c .before .before) in
-    (ap (λ (e : Finish). Finished e) (c .ending .ensures)
-    ∙ data-end (c .before .before .before .before .before .before .before .args .s .now) (c .before .before .before .before .before .before .before .args .w) (c .before .before .before .before .before .before .before .pre .0) (c .before .before .quiet .result) (omega arith) (omega arith) (omega arith) (c .before .before .quiet .ensures .1 .0) (c .before .before .quiet .ensures .1 .1 (c .before .if1 .taken)),
-    tt)
+returns c = let f = facts (c .before .before) in (
+  ap (λ (e : Finish). Finished e) (c .ending .ensures)
+      ∙ data-end (c .before .before .before .before .before .before .before .args .s .now) (c .before .before .before .before .before .before .before .args .w) (c .before .before .before .before .before .before .before .pre .0) (c .before .before .quiet .result) (omega arith) (omega arith) (omega arith) (c .before .before .quiet .ensures .1 .0) (c .before .before .quiet .ensures .1 .1 (c .before .if1 .taken)),
+  tt,
+)
 
 mul-place : tie.Need-mul-place
 mul-place c = let f = facts (c .before .before) in omega (arith, c .before .before .before .before .before .before .before .good)
@@ -66,10 +67,11 @@ sub-left-2 c = search needs
 returns-2 : tie.Need-returns-2
 unfolding resume Moved
 returns-2 c = let f = facts (c .before .before .before .before) in
-    let e : c .before .before .before .before .before .smaller2 .result ≡ c .before .before .before .before .before .before .before .before .before .args .w .skip = omega arith in
-    (rw (c .before .word-at .ensures ∙ sym (word-after (c .before .before .before .before .before .before .before .before .before .args .s .now) (c .before .before .before .before .before .before .before .before .before .args .w .at) (c .before .before .before .before .before .smaller2 .result)), e)
-    (data-reached (c .before .before .before .before .before .before .before .before .before .args .s .now) (c .before .before .before .before .before .before .before .before .before .args .w) (c .before .before .before .before .before .before .before .before .before .pre .0) (omega arith) (omega arith) (λ i h. c .before .before .before .before .quiet .ensures .1 .0 i (omega arith))),
-    tt)
+    let e : c .before .before .before .before .before .smaller2 .result ≡ c .before .before .before .before .before .before .before .before .before .args .w .skip = omega arith in (
+      rw (c .before .word-at .ensures ∙ sym (word-after (c .before .before .before .before .before .before .before .before .before .args .s .now) (c .before .before .before .before .before .before .before .before .before .args .w .at) (c .before .before .before .before .before .smaller2 .result)), e)
+          (data-reached (c .before .before .before .before .before .before .before .before .before .args .s .now) (c .before .before .before .before .before .before .before .before .before .args .w) (c .before .before .before .before .before .before .before .before .before .pre .0) (omega arith) (omega arith) (λ i h. c .before .before .before .before .quiet .ensures .1 .0 i (omega arith))),
+      tt,
+    )
 
 returns-3 : tie.Need-returns-3
 unfolding resume Moved
@@ -82,9 +84,10 @@ after-packet-requires c κs = let f = facts (c .before .before .before .before) 
 returns-4 : tie.Need-returns-4
 unfolding resume
 returns-4 c = let f = facts (c .before .before .before .before .before) in
-    rw (c .after-packet .ensures)
-    (data-past (c .before .before .before .before .before .before .before .before .before .before .args .s .now) (c .before .before .before .before .before .before .before .before .before .before .args .w) (c .before .before .before .before .before .before .before .before .before .before .pre .0) (omega arith) (omega arith) (λ i h. c .before .before .before .before .before .quiet .ensures .1 .0 i (omega arith)),
-    packet-moved (c .before .before .before .before .before .before .before .before .before .before .args .s .now) (c .before .before .before .before .before .before .before .before .before .before .args .w) _ (c .before .before .before .before .before .before .before .before .before .before .pre .0) (omega arith) (c .before .before .before .before .before .before .before .before .before .before .pre .1))
+    rw (c .after-packet .ensures) (
+      data-past (c .before .before .before .before .before .before .before .before .before .before .args .s .now) (c .before .before .before .before .before .before .before .before .before .before .args .w) (c .before .before .before .before .before .before .before .before .before .before .pre .0) (omega arith) (omega arith) (λ i h. c .before .before .before .before .before .quiet .ensures .1 .0 i (omega arith)),
+      packet-moved (c .before .before .before .before .before .before .before .before .before .before .args .s .now) (c .before .before .before .before .before .before .before .before .before .before .args .w) _ (c .before .before .before .before .before .before .before .before .before .before .pre .0) (omega arith) (c .before .before .before .before .before .before .before .before .before .before .pre .1),
+    )
 
 pub data-step-spec : {M : Type 1} → statement M
 data-step-spec =

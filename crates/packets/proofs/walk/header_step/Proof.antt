@@ -75,21 +75,24 @@ enum-told-3 c = search needs
 
 returns-3 : tie.Need-returns-3
 unfolding resume afterHeader modeOf
-returns-3 c = rw (c .after-header .ensures)
-    (header-on (c .before .before .before .before .before .before .before .before .args .s .now) (c .before .before .before .before .before .before .before .before .args .w) (c .before .before .before .before .before .before .before .before .pre .0) (word-there (c .before .before .before .before)) _ _ _ (rw (head-is (c .before .before .before) ∙ c .before .enum-told .given .1) refl),
-    header-moved (c .before .before .before .before .before .before .before .before .args .w) _ _ _ _ (fits (c .before .before .before .before)) (c .before .before .before .before .before .before .before .before .pre .1))
+returns-3 c = rw (c .after-header .ensures) (
+  header-on (c .before .before .before .before .before .before .before .before .args .s .now) (c .before .before .before .before .before .before .before .before .args .w) (c .before .before .before .before .before .before .before .before .pre .0) (word-there (c .before .before .before .before)) _ _ _ (rw (head-is (c .before .before .before) ∙ c .before .enum-told .given .1) refl),
+  header-moved (c .before .before .before .before .before .before .before .before .args .w) _ _ _ _ (fits (c .before .before .before .before)) (c .before .before .before .before .before .before .before .before .pre .1),
+)
 
 returns-4 : tie.Need-returns-4
 unfolding resume afterHeader modeOf
-returns-4 c = rw (c .after-header2 .ensures)
-    (header-on (c .before .before .before .before .before .before .before .before .before .args .s .now) (c .before .before .before .before .before .before .before .before .before .args .w) (c .before .before .before .before .before .before .before .before .before .pre .0) (word-there (c .before .before .before .before .before)) _ _ _ (rw (head-is (c .before .before .before .before) ∙ c .before .before .header .given .1) refl),
-    header-moved (c .before .before .before .before .before .before .before .before .before .args .w) _ _ _ _ (fits (c .before .before .before .before .before)) (c .before .before .before .before .before .before .before .before .before .pre .1))
+returns-4 c = rw (c .after-header2 .ensures) (
+  header-on (c .before .before .before .before .before .before .before .before .before .args .s .now) (c .before .before .before .before .before .before .before .before .before .args .w) (c .before .before .before .before .before .before .before .before .before .pre .0) (word-there (c .before .before .before .before .before)) _ _ _ (rw (head-is (c .before .before .before .before) ∙ c .before .before .header .given .1) refl),
+  header-moved (c .before .before .before .before .before .before .before .before .before .args .w) _ _ _ _ (fits (c .before .before .before .before .before)) (c .before .before .before .before .before .before .before .before .before .pre .1),
+)
 
 returns-5 : tie.Need-returns-5
 unfolding resume afterHeader modeOf
-returns-5 c = rw (c .after-header3 .ensures)
-    (header-on (c .before .before .before .before .before .before .before .before .before .before .before .before .args .s .now) (c .before .before .before .before .before .before .before .before .before .before .before .before .args .w) (c .before .before .before .before .before .before .before .before .before .before .before .before .pre .0) (word-there (c .before .before .before .before .before .before .before .before)) _ _ _ (rw (head-is (c .before .before .before .before .before .before .before) ∙ c .before .before .before .before .before .header2 .given .1, c .before .before .before2 .given .1) refl),
-    header-moved (c .before .before .before .before .before .before .before .before .before .before .before .before .args .w) _ _ _ _ (fits (c .before .before .before .before .before .before .before .before)) (c .before .before .before .before .before .before .before .before .before .before .before .before .pre .1))
+returns-5 c = rw (c .after-header3 .ensures) (
+  header-on (c .before .before .before .before .before .before .before .before .before .before .before .before .args .s .now) (c .before .before .before .before .before .before .before .before .before .before .before .before .args .w) (c .before .before .before .before .before .before .before .before .before .before .before .before .pre .0) (word-there (c .before .before .before .before .before .before .before .before)) _ _ _ (rw (head-is (c .before .before .before .before .before .before .before) ∙ c .before .before .before .before .before .header2 .given .1, c .before .before .before2 .given .1) refl),
+  header-moved (c .before .before .before .before .before .before .before .before .before .before .before .before .args .w) _ _ _ _ (fits (c .before .before .before .before .before .before .before .before)) (c .before .before .before .before .before .before .before .before .before .before .before .before .pre .1),
+)
 
 returns-6 : tie.Need-returns-6
 unfolding resume Moved afterHeader

@@ -47,11 +47,15 @@ effect-is c =
     ap (effectOf (c .before .before .before .before .before .before .args .register)) (word-after (c .before .before .before .before .before .before .args .s .now) (c .before .before .before .before .before .before .args .at) (c .before .before .before .loop .i) ∙ sym (c .before .word-at .ensures)) ∙ sym (c .effect-of .ensures)
 
 returns-2 : tie.Need-returns-2 Inv-loop μ-loop
-returns-2 c = (omega arith,
-    (c .before .before .before .before .loop .inv .1,
+returns-2 c = (
+  omega arith,
+  (
+    c .before .before .before .before .loop .inv .1,
     λ h e.
-    let q : c .before .effect-of .result ≡ GoesOn = sym (effect-is (c .before)) ∙ e in
-    ⊎-elim (λ z. omega arith) (λ z. omega arith) (rw q at (c .match .keys2))))
+        let q : c .before .effect-of .result ≡ GoesOn = sym (effect-is (c .before)) ∙ e in
+        ⊎-elim (λ z. omega arith) (λ z. omega arith) (rw q at (c .match .keys2)),
+  ),
+)
 
 add-i : tie.Need-add-i Inv-loop μ-loop
 add-i c = omega arith

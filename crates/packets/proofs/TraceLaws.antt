@@ -1,0 +1,39 @@
+-- The cases of a trace, one law each.
+use Prim.Native.Nat.{ℕ, _+_}
+use mathlib.Core.Path.{_≡_, refl}
+use mathlib.Core.Option.{some, none}
+use mathlib.Core.List.{List, [], _∷_}
+use Rattle.packets.specs.Packet.{headOf, effectOf}
+use Rattle.packets.specs.Reading.{Mode, header, payload, modeOf, afterHeader, Trace, wrote, ended, jumps, faulty, short, trace}
+use Rattle.packets.specs.declared.header.Before.{Before}
+use Rattle.packets.specs.declared.header.Before.the-variants.{Other}
+use Rattle.packets.specs.declared.header.Effect.the-variants.{GoesOn, Desync, Iprog}
+
+pub trace-none : (p : ℕ) (m : Mode) → trace [] p m ≡ short
+unfolding trace
+trace-none p m = refl
+
+module _ (word : ℕ) (ws : List ℕ) (p : ℕ) (before : Before) where
+  pub trace-header : (m : Mode) → afterHeader (headOf word) before ≡ some m → trace (word ∷ ws) p (header before) ≡ trace ws (p + 4) m
+  unfolding trace
+  trace-header m e = rw (e, trace)
+
+  pub trace-fault : afterHeader (headOf word) before ≡ none → trace (word ∷ ws) p (header before) ≡ faulty p
+  unfolding trace
+  trace-fault e = rw (e, trace)
+
+module _ (word : ℕ) (ws : List ℕ) (p register left : ℕ) where
+  pub trace-data : effectOf register word ≡ GoesOn →
+      trace (word ∷ ws) p (payload register left) ≡ wrote (record { register = register; word = word; place = p }) left (trace ws (p + 4) (modeOf left register Other))
+  unfolding trace
+  trace-data e = rw (e, trace)
+
+  pub trace-desync : effectOf register word ≡ Desync →
+      trace (word ∷ ws) p (payload register left) ≡ wrote (record { register = register; word = word; place = p }) left (ended (p + 4))
+  unfolding trace
+  trace-desync e = rw (e, trace)
+
+  pub trace-iprog : effectOf register word ≡ Iprog →
+      trace (word ∷ ws) p (payload register left) ≡ wrote (record { register = register; word = word; place = p }) left (jumps p)
+  unfolding trace
+  trace-iprog e = rw (e, trace)
