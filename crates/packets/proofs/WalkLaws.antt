@@ -10,49 +10,60 @@ use borrow.Author.Tests.{eqb-true, eq-eqb, ne-eqb}
 use lib.Dec.{eqb}
 use lib.ListN.{length, getD, drop, length-drop}
 use lib.Seq.{drop-length}
-use Rattle.packets.specs.Framing.{words}
+use Rattle.packets.specs.Framing.{words, wordAt}
 use Rattle.packets.specs.Packet.{ask, headOf, effectOf, CMD, WBSTAR}
 use Rattle.packets.specs.Reading.{Mode, header, payload, modeOf, afterHeader, Trace, wrote, ended, jumps, faulty, short, trace, lastWbstar, target, finish, listOf, traceFrom, finishFrom, writesFrom, nthWrite}
-use Rattle.packets.specs.Walk.{walked, walkOf, startOf, onward, passed, endingOf, Moved, Inside}
+use Rattle.packets.specs.Walk.{walked, going, comes, walkOf, startOf, onward, stoppedAt, reachedAt, passed, endingOf, HeldBy, Held, leftBy, Stepped, Inside}
 use Rattle.packets.specs.declared.header.Header.{Header}
 use Rattle.packets.specs.declared.header.Before.{Before}
 use Rattle.packets.specs.declared.header.Before.the-variants.{Other}
 use Rattle.packets.specs.declared.header.Effect.{Effect}
 use Rattle.packets.specs.declared.header.Effect.the-variants.{GoesOn, Desync, Iprog as Jumps}
+use Rattle.packets.specs.declared.walk.Finish.{Finish}
 use Rattle.packets.specs.declared.walk.Finish.the-variants.{Ended, Iprog, Fault, Short}
 use Rattle.packets.specs.declared.walk.Walk.{Walk}
-use Rattle.packets.specs.declared.walk.Stepped.the-variants.{On}
+use Rattle.packets.specs.declared.walk.Status.{Status}
+use Rattle.packets.specs.declared.walk.Status.the-variants.{Going, Reached as AtWrite, Ended as AtEnd, Iprog as AtIprog, Fault as AtFault, Short as AtShort}
 use Rattle.packets.specs.declared.walk.Walked.{Walked}
 use Rattle.packets.specs.declared.walk.Walked.the-variants.{Reached, Finished}
 use Rattle.packets.specs.declared.writes.Write.{Write}
 use Rattle.packets.specs.declared.writes.WriteAnswer.{WriteAnswer}
 use Rattle.packets.specs.declared.writes.WriteAnswer.the-variants.{Found, Nothing}
-use Rattle.packets.proofs.TraceLaws.{trace-header, trace-fault, trace-data}
+use Rattle.packets.proofs.TraceLaws.{trace-header, trace-fault, trace-data, trace-desync, trace-iprog}
 use Rattle.packets.proofs.FramingLaws.{words-cons, words-none, words-on, word-after, room}
 
 -- One header.
 
-module _ (s : List ℕ) (w : Walk) (none-left : w .left ≡ 0) where
-  at-header : walkOf s w ≡ walked (trace (words (drop (w .at) s)) (w .at) (header (w .before))) (w .skip) (w .writes) (w .wbstar)
-  unfolding walkOf modeOf
-  at-header = rw none-left refl
+on-going : (s : List ℕ) (w : Walk) → w .status ≡ Going → going s w ≡ walkOf s w
+unfolding comes
+on-going s w e = rw e refl
 
-  pub header-short : length (words (drop (w .at) s)) ≡ 0 → Finished Short ≡ walkOf s w
-  unfolding walked trace
-  header-short h = sym (at-header ∙ rw (words-none (words (drop (w .at) s)) h) refl)
+module _ (s : List ℕ) (w : Walk) (status : w .status ≡ Going) (none-left : w .left ≡ 0) (behind : w .writes ≤ w .at) where
+  at-header : walked (trace (words (drop (w .at) s)) (w .at) (header (w .before))) (w .skip) (w .writes) (w .wbstar) ≡ walkOf s w
+  unfolding going modeOf
+  at-header = sym (rw none-left refl) ∙ on-going s w status
+
+  pub header-short : length (words (drop (w .at) s)) ≡ 0 → Stepped s w (stoppedAt w (w .at) 0 AtShort)
+  unfolding walked trace comes HeldBy leftBy
+  header-short h = record { same = rw (words-none (words (drop (w .at) s)) h) at at-header; held = tt; nearer = omega arith }
 
   pub header-on : 0 < length (words (drop (w .at) s)) → (register left : ℕ) (before : Before) →
-      afterHeader (headOf (getD (words (drop (w .at) s)) 0 0)) (w .before) ≡ some (modeOf left register before) →
-      walkOf s (onward w register left before) ≡ walkOf s w
-  unfolding walkOf
-  header-on h register left before e =
-      sym (at-header ∙ rw (words-cons s (w .at) h) (ap (λ (t : Trace). walked t (w .skip) (w .writes) (w .wbstar)) (trace-header _ _ _ _ _ e)))
+      afterHeader (headOf (wordAt s (w .at))) (w .before) ≡ some (modeOf left register before) → Stepped s w (onward w register left before)
+  unfolding going comes HeldBy leftBy
+  header-on h register left before e = record {
+    same = ap (λ (t : Trace). walked t (w .skip) (w .writes) (w .wbstar)) (sym (trace-header _ _ _ _ _ e)) ∙ (rw (words-cons s (w .at) h) at at-header);
+    held = omega arith;
+    nearer = let r = room s (w .at) in omega arith;
+  }
 
   pub header-fault : 0 < length (words (drop (w .at) s)) →
-      afterHeader (headOf (getD (words (drop (w .at) s)) 0 0)) (w .before) ≡ none → Finished (Fault (w .at)) ≡ walkOf s w
-  unfolding walked
-  header-fault h e =
-      sym (at-header ∙ rw (words-cons s (w .at) h) (ap (λ (t : Trace). walked t (w .skip) (w .writes) (w .wbstar)) (trace-fault _ _ _ _ e)))
+      afterHeader (headOf (wordAt s (w .at))) (w .before) ≡ none → Stepped s w (stoppedAt w (w .at) 0 AtFault)
+  unfolding walked comes HeldBy leftBy
+  header-fault h e = record {
+    same = ap (λ (t : Trace). walked t (w .skip) (w .writes) (w .wbstar)) (sym (trace-fault _ _ _ _ e)) ∙ (rw (words-cons s (w .at) h) at at-header);
+    held = tt;
+    nearer = omega arith;
+  }
 
 -- One data word.
 
@@ -116,16 +127,29 @@ other-quiet register word h = simp (ne-eqb register CMD h)
 not-wbstar : (register word : ℕ) → (effectOf register word ≡ GoesOn → ⊥) → eqb register WBSTAR ≡ false
 not-wbstar register word h = ne-eqb register WBSTAR (λ e. h (other-quiet register word (λ f. omega arith)))
 
+-- the end that a data word at a place brings
+unfoldable brought : ℕ → ℕ → ℕ → Effect → Finish
+brought place writes wbstar GoesOn = Short
+brought place writes wbstar Desync = Ended (place + 4) (writes + 1)
+brought place writes wbstar Jumps = Iprog place (target wbstar)
+
 -- a data word that ends the reading or jumps
 end-data : (word : ℕ) (ws : List ℕ) (p register left skip writes wbstar : ℕ) (e : Effect) → effectOf register word ≡ e → (e ≡ GoesOn → ⊥) → eqb register WBSTAR ≡ false →
-    walked (trace (word ∷ ws) p (payload register left)) (suc skip) writes wbstar ≡ Finished (endingOf p writes wbstar e)
-unfolding trace walked endingOf
+    walked (trace (word ∷ ws) p (payload register left)) (suc skip) writes wbstar ≡ Finished (brought p writes wbstar e)
+unfolding walked brought
 end-data word ws p register left skip writes wbstar GoesOn f h other = absurd (h refl)
-end-data word ws p register left skip writes wbstar Desync f h other = rw (f, trace)
-end-data word ws p register left skip writes wbstar Jumps f h other = rw (f, trace) (ap (λ (x : ℕ). Finished (Iprog p (target x))) (lone other))
+end-data word ws p register left skip writes wbstar Desync f h other = rw (trace-desync word ws p register left f) refl
+end-data word ws p register left skip writes wbstar Jumps f h other =
+    rw (trace-iprog word ws p register left f) (ap (λ (x : ℕ). Finished (Iprog p (target x))) (lone other))
   where
     lone : eqb register WBSTAR ≡ false → lastWbstar (record { register = register; word = word; place = p }) wbstar ≡ wbstar
     lone e = rw (e, lastWbstar)
+
+ending-stepped : (s : List ℕ) (w : Walk) (run : ℕ) (e : Effect) → Finished (brought (w .at + 4 * run) (w .writes + run) (w .wbstar) e) ≡ walkOf s w → Stepped s w (endingOf w run e)
+unfolding brought endingOf comes HeldBy leftBy
+ending-stepped s w run GoesOn q = record { same = q; held = tt; nearer = omega arith }
+ending-stepped s w run Desync q = record { same = q; held = tt; nearer = omega arith }
+ending-stepped s w run Jumps q = record { same = q; held = tt; nearer = omega arith }
 
 some-mode : (n register : ℕ) (before : Before) → 1 ≤ n → modeOf n register before ≡ modeOf n register Other
 unfolding modeOf
@@ -138,52 +162,66 @@ words-at s at j h =
     words-cons s (at + 4 * j) (subst (λ (n : ℕ). 0 < n) (sym (ap length (sym (words-on s at j)) ∙ length-drop j (words (drop at s)))) (omega arith))
     ∙ ap (λ (x : ℕ). x ∷ words (drop (at + 4 * j + 4) s)) (sym (word-after s at j))
 
-module _ (s : List ℕ) (w : Walk) (some-left : 1 ≤ w .left) where
+module _ (s : List ℕ) (w : Walk) (status : w .status ≡ Going) (some-left : 1 ≤ w .left) (behind : w .writes ≤ w .at) where
   -- inside a packet, after j of its words that let the reading go on
   in-packet : (j : ℕ) → j ≤ w .left → j ≤ length (words (drop (w .at) s)) → j ≤ w .skip →
       ((i : ℕ) → i < j → effectOf (w .register) (getD (words (drop (w .at) s)) i 0) ≡ GoesOn) →
       walkOf s w ≡ walked (trace (words (drop (w .at + 4 * j) s)) (w .at + 4 * j) (modeOf (w .left - j) (w .register) Other)) (w .skip - j) (w .writes + j) (kept (eqb (w .register) WBSTAR) (words (drop (w .at) s)) j (w .wbstar))
-  unfolding walkOf
+  unfolding going
   in-packet j a b d q =
-      ap (λ (m : Mode). walked (trace (words (drop (w .at) s)) (w .at) m) (w .skip) (w .writes) (w .wbstar)) (some-mode (w .left) (w .register) (w .before) some-left)
+      sym (on-going s w status)
+      ∙ ap (λ (m : Mode). walked (trace (words (drop (w .at) s)) (w .at) m) (w .skip) (w .writes) (w .wbstar)) (some-mode (w .left) (w .register) (w .before) some-left)
       ∙ advance j (words (drop (w .at) s)) (w .left) (w .register) (w .at) (w .skip) (w .writes) (w .wbstar) a b d q
       ∙ rw (words-on s (w .at) j) refl
 
   pub data-short : length (words (drop (w .at) s)) < w .left → length (words (drop (w .at) s)) ≤ w .skip →
       ((i : ℕ) → i < length (words (drop (w .at) s)) → effectOf (w .register) (getD (words (drop (w .at) s)) i 0) ≡ GoesOn) →
-      Finished Short ≡ walkOf s w
-  unfolding trace walked
+      Stepped s w (stoppedAt w (w .at) 0 AtShort)
+  unfolding trace walked comes HeldBy leftBy
   data-short a b q =
       let e : words (drop (w .at + 4 * length (words (drop (w .at) s))) s) ≡ [] = sym (words-on s (w .at) _) ∙ drop-length (words (drop (w .at) s)) in
-      sym (in-packet (length (words (drop (w .at) s))) (omega arith) (omega arith) b q ∙ rw e refl)
+      record {
+        same = sym (in-packet (length (words (drop (w .at) s))) (omega arith) (omega arith) b q ∙ rw e refl);
+        held = tt;
+        nearer = omega arith;
+      }
 
   pub data-past : w .left ≤ length (words (drop (w .at) s)) → w .left ≤ w .skip →
       ((i : ℕ) → i < w .left → effectOf (w .register) (getD (words (drop (w .at) s)) i 0) ≡ GoesOn) →
-      walkOf s (passed s w) ≡ walkOf s w
-  unfolding walkOf modeOf
-  data-past a b q =
-      sym (in-packet (w .left) (omega arith) a b q ∙ rw (sub-self (w .left), kept-all (eqb (w .register) WBSTAR) (words (drop (w .at) s)) (w .left) (w .wbstar) some-left) refl)
+      Stepped s w (passed s w)
+  unfolding going modeOf comes HeldBy leftBy
+  data-past a b q = record {
+    same = sym (in-packet (w .left) (omega arith) a b q ∙ rw (sub-self (w .left), kept-all (eqb (w .register) WBSTAR) (words (drop (w .at) s)) (w .left) (w .wbstar) some-left) refl);
+    held = omega arith;
+    nearer = let r = room s (w .at) in omega arith;
+  }
 
-  pub data-reached : w .skip < w .left → w .skip < length (words (drop (w .at) s)) →
-      ((i : ℕ) → i < w .skip → effectOf (w .register) (getD (words (drop (w .at) s)) i 0) ≡ GoesOn) →
-      Reached (record { register = w .register; word = getD (words (drop (w .at) s)) (w .skip) 0; place = w .at + 4 * w .skip }) (w .left - 1 - w .skip) ≡ walkOf s w
-  unfolding trace walked modeOf
-  data-reached a b q =
-      let e : w .left - w .skip ≡ suc (w .left - 1 - w .skip) = omega arith in
-      sym (in-packet (w .skip) (omega arith) (omega arith) (omega arith) q ∙ rw (e, sub-self (w .skip), words-at s (w .at) (w .skip) b) refl)
+  pub data-reached : (run : ℕ) → run ≡ w .skip → run < w .left → run < length (words (drop (w .at) s)) →
+      ((i : ℕ) → i < run → effectOf (w .register) (getD (words (drop (w .at) s)) i 0) ≡ GoesOn) →
+      Stepped s w (reachedAt w run)
+  unfolding trace walked modeOf comes HeldBy leftBy
+  data-reached run at a b q =
+      let e : w .left - run ≡ suc (w .left - 1 - run) = omega arith in
+      let k : w .skip - run ≡ 0 = omega arith in
+      record {
+        same = sym (in-packet run (omega arith) (omega arith) (omega arith) q ∙ rw (e, k, words-at s (w .at) run b) (rw (word-after s (w .at) run) refl));
+        held = let r = room s (w .at) in omega arith;
+        nearer = omega arith;
+      }
 
   pub data-end : (run : ℕ) → run < w .left → run < length (words (drop (w .at) s)) → run < w .skip →
       ((i : ℕ) → i < run → effectOf (w .register) (getD (words (drop (w .at) s)) i 0) ≡ GoesOn) →
       (effectOf (w .register) (getD (words (drop (w .at) s)) run 0) ≡ GoesOn → ⊥) →
-      Finished (endingOf (w .at + 4 * run) (w .writes + run) (w .wbstar) (effectOf (w .register) (getD (words (drop (w .at) s)) run 0))) ≡ walkOf s w
+      Stepped s w (endingOf w run (effectOf (w .register) (getD (words (drop (w .at) s)) run 0)))
   unfolding modeOf
   data-end run a b d q e =
       let l : w .left - run ≡ suc (w .left - run - 1) = omega arith in
       let k : w .skip - run ≡ suc (w .skip - run - 1) = omega arith in
       let other : eqb (w .register) WBSTAR ≡ false = not-wbstar (w .register) _ e in
-      sym (in-packet run (omega arith) (omega arith) (omega arith) q
+      ending-stepped s w run _
+      (sym (in-packet run (omega arith) (omega arith) (omega arith) q
       ∙ rw (l, k, words-at s (w .at) run b, kept-none _ (words (drop (w .at) s)) run (w .wbstar) other)
-      (end-data _ _ (w .at + 4 * run) (w .register) _ _ (w .writes + run) (w .wbstar) _ refl e other))
+      (end-data _ _ (w .at + 4 * run) (w .register) _ _ (w .writes + run) (w .wbstar) _ refl e other)))
 
 -- A write that is reached lies whole within the bytes.
 
@@ -206,9 +244,21 @@ inside-at (x ∷ ws) p (payload register left) (suc skip) writes wbstar most h =
     go Desync f ih = rw (f, trace) tt
     go Jumps f ih = rw (f, trace) tt
 
-pub inside : (s : List ℕ) (w : Walk) → Inside (length s) (walkOf s w)
-unfolding walkOf
-inside s w = inside-at (words (drop (w .at) s)) (w .at) _ (w .skip) (w .writes) (w .wbstar) (length s) (λ h. let e : length (words (drop (w .at) s)) ≡ (length s - w .at) / 4 = room s (w .at) in omega arith)
+inside-going : (s : List ℕ) (w : Walk) → Inside (length s) (going s w)
+unfolding going
+inside-going s w = inside-at (words (drop (w .at) s)) (w .at) _ (w .skip) (w .writes) (w .wbstar) (length s) (λ h. let e : length (words (drop (w .at) s)) ≡ (length s - w .at) / 4 = room s (w .at) in omega arith)
+
+pub inside : (s : List ℕ) (w : Walk) → Held (length s) w → Inside (length s) (walkOf s w)
+unfolding comes HeldBy Inside
+inside s w h = go (w .status) h
+  where
+    go : (e : Status) → HeldBy e (length s) w → Inside (length s) (comes e s w)
+    go Going h = inside-going s w
+    go AtWrite h = h
+    go AtEnd h = tt
+    go AtIprog h = tt
+    go AtFault h = tt
+    go AtShort h = tt
 
 -- A walk sent past all writes comes to the end, and one sent for write i to that write, or to none.
 
@@ -251,24 +301,14 @@ list-short (x ∷ ws) p (payload register left) = go (effectOf register x) refl 
     go Desync f ih = rw (f, trace) (omega arith)
     go Jumps f ih = rw (f, trace) (omega arith)
 
--- Steps that go on come nearer the end.
-
-pub header-moved : (w : Walk) (length register left : ℕ) (before : Before) → w .at + 4 ≤ length → w .writes ≤ w .at → Moved length (w .at) (On (onward w register left before))
-unfolding Moved
-header-moved w length register left before a b = (omega arith, omega arith)
-
-pub packet-moved : (s : List ℕ) (w : Walk) (length : ℕ) → 1 ≤ w .left → w .at + 4 * w .left ≤ length → w .writes ≤ w .at → Moved length (w .at) (On (passed s w))
-unfolding Moved
-packet-moved s w length h a b = (omega arith, omega arith)
-
 -- The walks that the calls make.
 
 pub finish-walk : (s : List ℕ) (from : ℕ) → walkOf s (startOf from (length s)) ≡ Finished (finishFrom s from)
-unfolding walkOf modeOf
+unfolding comes going modeOf
 finish-walk s from =
     walked-finish (traceFrom s from) (length s) 0 0
     (let h : length (listOf (traceFrom s from)) ≤ length (words (drop from s)) = list-short (words (drop from s)) from (header Other) in omega (arith, room s from))
 
 pub nth-walk : (s : List ℕ) (from i : ℕ) → cameTo (walkOf s (startOf from i)) ≡ nthWrite (writesFrom s from) i
-unfolding walkOf modeOf
+unfolding comes going modeOf
 nth-walk s from i = walked-nth (traceFrom s from) i 0 0

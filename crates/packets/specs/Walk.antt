@@ -1,10 +1,11 @@
 -- The reading of packets as the code walks it. Nothing here is part of what the public calls promise: the contracts of the private functions cite it.
 use Prim.Native.Nat.{ℕ, zero, suc, _+_, _-_, _*_, _≤_}
+use mathlib.Core.Path.{_≡_}
 use mathlib.Core.Bool.{true, false}
 use mathlib.Core.List.{List}
 use lib.ListN.{length, getD, drop}
 use lib.Dec.{eqb}
-use Rattle.packets.specs.Framing.{words}
+use Rattle.packets.specs.Framing.{words, wordAt}
 use Rattle.packets.specs.Packet.{WBSTAR}
 use Rattle.packets.specs.Reading.{Trace, wrote, ended, jumps, faulty, short, trace, modeOf, lastWbstar, target}
 use Rattle.packets.specs.declared.header.Before.{Before}
@@ -17,8 +18,8 @@ use Rattle.packets.specs.declared.walk.Finish.the-variants.{Ended, Iprog
 use Rattle.packets.specs.declared.walk.Walk.{Walk}
 use Rattle.packets.specs.declared.walk.Walked.{Walked}
 use Rattle.packets.specs.declared.walk.Walked.the-variants.{Reached, Finished}
-use Rattle.packets.specs.declared.walk.Stepped.{Stepped}
-use Rattle.packets.specs.declared.walk.Stepped.the-variants.{On, Done}
+use Rattle.packets.specs.declared.walk.Status.{Status}
+use Rattle.packets.specs.declared.walk.Status.the-variants.{Going, Reached as AtWrite, Ended as AtEnd, Iprog as AtIprog, Fault as AtFault, Short as AtShort}
 
 -- what a trace comes to for one who passes `skip` writes and wants the next
 unfoldable pub walked : Trace → ℕ → ℕ → ℕ → Walked
@@ -29,12 +30,52 @@ walked (jumps place) skip writes wbstar = Finished (Iprog place (target wbstar))
 walked (faulty place) skip writes wbstar = Finished (Fault place)
 walked short skip writes wbstar = Finished Short
 
-unfoldable pub walkOf : List ℕ → Walk → Walked
-walkOf s w =
+-- a walk that goes on, from where it is
+unfoldable pub going : List ℕ → Walk → Walked
+going s w =
     walked (trace (words (drop (w .at) s)) (w .at) (modeOf (w .left) (w .register) (w .before))) (w .skip) (w .writes) (w .wbstar)
 
+-- what a walk comes to, by its status
+unfoldable pub comes : Status → List ℕ → Walk → Walked
+comes Going s w = going s w
+comes AtWrite s w = Reached (record { register = w .register; word = wordAt s (w .at); place = w .at }) (w .left)
+comes AtEnd s w = Finished (Ended (w .at) (w .writes))
+comes AtIprog s w = Finished (Iprog (w .at) (target (w .wbstar)))
+comes AtFault s w = Finished (Fault (w .at))
+comes AtShort s w = Finished Short
+
+abbrev pub walkOf : List ℕ → Walk → Walked
+walkOf s w = comes (w .status) s w
+
+-- the writes passed are at most the bytes passed, and a write that was reached lies whole within the bytes
+unfoldable pub HeldBy : Status → ℕ → Walk → Type 0
+HeldBy Going length w = w .writes ≤ w .at
+HeldBy AtWrite length w = w .at + 4 ≤ length
+HeldBy AtEnd length w = Unit {0}
+HeldBy AtIprog length w = Unit {0}
+HeldBy AtFault length w = Unit {0}
+HeldBy AtShort length w = Unit {0}
+
+abbrev pub Held : ℕ → Walk → Type 0
+Held length w = HeldBy (w .status) length w
+
+-- how far a walk still has to go
+unfoldable pub leftBy : Status → ℕ → ℕ → ℕ
+leftBy Going length at = suc (length - at)
+leftBy AtWrite length at = 0
+leftBy AtEnd length at = 0
+leftBy AtIprog length at = 0
+leftBy AtFault length at = 0
+leftBy AtShort length at = 0
+
+-- what a step of a walk keeps: what the walk comes to, and that it comes nearer
+pub record Stepped (s : List ℕ) (w r : Walk) : Type 0 where
+  pub same : walkOf s r ≡ walkOf s w
+  pub held : Held (length s) r
+  pub nearer : leftBy (r .status) (length s) (r .at) ≤ length s - w .at
+
 abbrev pub startOf : ℕ → ℕ → Walk
-startOf from skip = record { at = from; register = 0; left = 0; before = Other; skip = skip; writes = 0; wbstar = 0 }
+startOf from skip = record { at = from; register = 0; left = 0; before = Other; skip = skip; writes = 0; wbstar = 0; status = Going }
 
 abbrev pub onward : Walk → ℕ → ℕ → Before → Walk
 onward w register left before = record {
@@ -45,6 +86,31 @@ onward w register left before = record {
   skip = w .skip;
   writes = w .writes;
   wbstar = w .wbstar;
+  status = Going;
+}
+
+abbrev pub stoppedAt : Walk → ℕ → ℕ → Status → Walk
+stoppedAt w at writes status = record {
+  at = at;
+  register = w .register;
+  left = w .left;
+  before = Other;
+  skip = w .skip;
+  writes = writes;
+  wbstar = w .wbstar;
+  status = status;
+}
+
+abbrev pub reachedAt : Walk → ℕ → Walk
+reachedAt w run = record {
+  at = w .at + 4 * run;
+  register = w .register;
+  left = w .left - 1 - run;
+  before = Other;
+  skip = 0;
+  writes = 0;
+  wbstar = 0;
+  status = AtWrite;
 }
 
 abbrev pub passed : List ℕ → Walk → Walk
@@ -56,23 +122,14 @@ passed s w = record {
   skip = w .skip - w .left;
   writes = w .writes + w .left;
   wbstar = elim (eqb (w .register) WBSTAR) [ true ↦ getD (words (drop (w .at) s)) (w .left - 1) 0 | false ↦ w .wbstar ];
+  status = Going;
 }
 
--- the end that a data word at a place brings, after so many writes
-unfoldable pub endingOf : ℕ → ℕ → ℕ → Effect → Finish
-endingOf place writes wbstar GoesOn = Short
-endingOf place writes wbstar Desync = Ended (place + 4) (writes + 1)
-endingOf place writes wbstar Jumps = Iprog place (target wbstar)
-
--- what is left to come to after a step
-unfoldable pub resume : List ℕ → Stepped → Walked
-resume s (On w) = walkOf s w
-resume s (Done comes) = comes
-
--- a step on has come nearer the end, and the writes passed are at most the bytes passed
-unfoldable pub Moved : ℕ → ℕ → Stepped → Type 0
-Moved length at (On w) = (suc (length - w .at) ≤ length - at) × (w .writes ≤ w .at)
-Moved length at (Done comes) = Unit {0}
+-- the end that the data word after `run` more brings
+unfoldable pub endingOf : Walk → ℕ → Effect → Walk
+endingOf w run GoesOn = stoppedAt w (w .at + 4 * run) 0 AtShort
+endingOf w run Desync = stoppedAt w (w .at + 4 * run + 4) (w .writes + run + 1) AtEnd
+endingOf w run Jumps = stoppedAt w (w .at + 4 * run) 0 AtIprog
 
 -- a write that was reached lies whole within the bytes
 unfoldable pub Inside : ℕ → Walked → Type 0

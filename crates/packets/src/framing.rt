@@ -26,8 +26,8 @@ fn skip_after(last: u8) -> usize
     }
 }
 
-// The first place at or after `from` where four bytes read AA 99 55 66, at any byte. The four are
-// compared from the last one back, so that most places are passed over unread.
+// The first place at or after `from` where four bytes read AA 99 55 66, at any byte. Where they do
+// not, the fourth byte says how far the next place is at which they can: most bytes are not read.
 pub(crate) fn find_sync(s: &[u8], from: usize) -> Found
     requires { ⌜ from ≤ length (now s) ⌝ }
     ensures { λ r. ⌜ r ≡ find (drop from (now (s .entry))) from ⌝ }
@@ -37,13 +37,13 @@ pub(crate) fn find_sync(s: &[u8], from: usize) -> Found
         if s.len() - at < 4 {
             break 'search Found::Nothing;
         }
-        let mut left = 4;
-        while 0 < left {
-            left -= 1;
-            if s[at + left] != SYNC[left] {
+        let mut i = 0;
+        while i < 4 {
+            if s[at + i] != SYNC[i] {
                 at += skip_after(s[at + 3]);
                 continue 'search;
             }
+            i += 1;
         }
         break 'search Found::At(at);
     }

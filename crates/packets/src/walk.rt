@@ -6,8 +6,9 @@ ghost use lib.ListN.{length, getD, drop};
 ghost use Rattle.packets.specs.Framing.{words};
 ghost use Rattle.packets.specs.Packet.{effectOf};
 ghost use Rattle.packets.specs.declared.header.Effect.the-variants.{GoesOn};
+ghost use Rattle.packets.specs.declared.walk.Status.the-variants.{Going};
 ghost use Rattle.packets.specs.Reading.{finishFrom};
-ghost use Rattle.packets.specs.Walk.{walkOf, startOf, onward, passed, endingOf, resume, Moved, Inside};
+ghost use Rattle.packets.specs.Walk.{walkOf, startOf, onward, stoppedAt, endingOf, reachedAt, passed, Held, Stepped, Inside};
 use crate::framing::word_at;
 use crate::framing::words_from;
 use crate::header::Before;
@@ -38,9 +39,20 @@ pub(crate) enum Walked {
     Finished(Finish),
 }
 
+// Whether a walk goes on, or what it has come to at its place.
+pub(crate) enum Status {
+    Going,
+    Reached,
+    Ended,
+    Iprog,
+    Fault,
+    Short,
+}
+
 // Where a walk is: the next word's place; the packet's register and the data words left in it; with
 // none left, what the word just before allows; the writes to pass before the wanted one; the writes
-// passed; the last WBSTAR word.
+// passed; the last WBSTAR word. It is a plain record, not an enum of records, so that it can stay
+// in registers from step to step.
 pub(crate) struct Walk {
     pub(crate) at: usize,
     pub(crate) register: u32,
@@ -49,12 +61,7 @@ pub(crate) struct Walk {
     pub(crate) skip: usize,
     pub(crate) writes: usize,
     pub(crate) wbstar: u32,
-}
-
-// A step of a walk: on, or what it comes to.
-pub(crate) enum Stepped {
-    On(Walk),
-    Done(Walked),
+    pub(crate) status: Status,
 }
 
 fn smaller(a: usize, b: usize) -> usize
@@ -97,52 +104,79 @@ fn after_header(w: Walk, register: u32, left: usize, before: Before) -> Walk
         skip: w.skip,
         writes: w.writes,
         wbstar: w.wbstar,
+        status: Status::Going,
     }
 }
 
-fn header_step(s: &[u8], w: Walk) -> Stepped
-    requires { ⌜ (w .left ≡ 0) × (w .writes ≤ w .at) ⌝ }
-    ensures resumes { λ r. ⌜ resume (now (s .entry)) r ≡ walkOf (now (s .entry)) w ⌝ }
-    ensures moves { λ r. ⌜ Moved (length (now (s .entry))) (w .at) r ⌝ }
+// The walk at an end, at a place and after so many writes.
+fn stopped(w: Walk, at: usize, writes: usize, status: Status) -> Walk
+    ensures { λ r. ⌜ r ≡ stoppedAt w at writes status ⌝ }
+{
+    Walk {
+        at,
+        register: w.register,
+        left: w.left,
+        before: Before::Other,
+        skip: w.skip,
+        writes,
+        wbstar: w.wbstar,
+        status,
+    }
+}
+
+fn header_step(s: &[u8], w: Walk) -> Walk
+    requires { ⌜ (w .status ≡ Going) × (w .left ≡ 0) × (w .writes ≤ w .at) ⌝ }
+    ensures { λ r. ⌜ Stepped (now (s .entry)) w r ⌝ }
 {
     let at = w.at;
     if words_from(s, at) == 0 {
-        return Stepped::Done(Walked::Finished(Finish::Short));
+        return stopped(w, at, 0, Status::Short);
     }
     let before = w.before;
     let header = header_of(word_at(s, at));
     match header {
-        Header::Nop => Stepped::On(after_header(w, 0, 0, Before::Other)),
+        Header::Nop => after_header(w, 0, 0, Before::Other),
         Header::Type1 { register, count } => {
-            Stepped::On(after_header(w, register, count as usize, Before::Opened(register)))
+            after_header(w, register, count as usize, Before::Opened(register))
         }
         Header::Type2 { count } => {
             let Before::Opened(register) = before else {
-                return Stepped::Done(Walked::Finished(Finish::Fault { place: at }));
+                return stopped(w, at, 0, Status::Fault);
             };
-            Stepped::On(after_header(w, register, count as usize, Before::Other))
+            after_header(w, register, count as usize, Before::Other)
         }
-        Header::Fault => Stepped::Done(Walked::Finished(Finish::Fault { place: at })),
+        Header::Fault => stopped(w, at, 0, Status::Fault),
     }
 }
 
-// The end that the data word after `run` more brings.
-fn ending(s: &[u8], w: Walk, run: usize) -> Finish
+// The walk at the end that the data word after `run` more brings.
+fn ending(s: &[u8], w: Walk, run: usize) -> Walk
     requires { ⌜ (w .at + 4 * run + 4 ≤ length (now s)) × (w .writes ≤ w .at) ⌝ }
-    ensures { λ r. ⌜ r ≡ endingOf (w .at + 4 * run) (w .writes + run) (w .wbstar) (effectOf (w .register) (getD (words (drop (w .at) (now (s .entry)))) run 0)) ⌝ }
+    ensures { λ r. ⌜ r ≡ endingOf w run (effectOf (w .register) (getD (words (drop (w .at) (now (s .entry)))) run 0)) ⌝ }
 {
     let place = w.at + 4 * run;
     let effect = effect_of(w.register, word_at(s, place));
     match effect {
-        Effect::Desync => Finish::Ended {
-            end: place + 4,
-            writes: w.writes + run + 1,
-        },
-        Effect::Iprog => Finish::Iprog {
-            place,
-            target: (w.wbstar % 0x2000_0000) as usize,
-        },
-        Effect::GoesOn => Finish::Short,
+        Effect::Desync => stopped(w, place + 4, w.writes + run + 1, Status::Ended),
+        Effect::Iprog => stopped(w, place, 0, Status::Iprog),
+        Effect::GoesOn => stopped(w, place, 0, Status::Short),
+    }
+}
+
+// The walk at the write that it was sent for, `run` data words on.
+fn reached(w: Walk, run: usize) -> Walk
+    requires { ⌜ (run < w .left) × (w .at + 4 * run < 18446744073709551616) ⌝ }
+    ensures { λ r. ⌜ r ≡ reachedAt w run ⌝ }
+{
+    Walk {
+        at: w.at + 4 * run,
+        register: w.register,
+        left: w.left - 1 - run,
+        before: Before::Other,
+        skip: 0,
+        writes: 0,
+        wbstar: 0,
+        status: Status::Reached,
     }
 }
 
@@ -165,60 +199,78 @@ fn after_packet(s: &[u8], w: Walk) -> Walk
         skip: w.skip - w.left,
         writes: w.writes + w.left,
         wbstar,
+        status: Status::Going,
     }
 }
 
-fn data_step(s: &[u8], w: Walk) -> Stepped
-    requires { ⌜ (1 ≤ w .left) × (w .writes ≤ w .at) ⌝ }
-    ensures resumes { λ r. ⌜ resume (now (s .entry)) r ≡ walkOf (now (s .entry)) w ⌝ }
-    ensures moves { λ r. ⌜ Moved (length (now (s .entry))) (w .at) r ⌝ }
+fn data_step(s: &[u8], w: Walk) -> Walk
+    requires { ⌜ (w .status ≡ Going) × (1 ≤ w .left) × (w .writes ≤ w .at) ⌝ }
+    ensures { λ r. ⌜ Stepped (now (s .entry)) w r ⌝ }
 {
     let at = w.at;
-    let room = words_from(s, at);
-    let here = smaller(w.left, room);
+    let here = smaller(w.left, words_from(s, at));
     let most = smaller(here, w.skip);
     let run = quiet(s, at, w.register, most);
     if run < most {
-        return Stepped::Done(Walked::Finished(ending(s, w, run)));
+        return ending(s, w, run);
     }
     if most < here {
-        let place = at + 4 * most;
-        let write = Write {
-            register: w.register,
-            word: word_at(s, place),
-            place,
-        };
-        let left = w.left - 1 - most;
-        return Stepped::Done(Walked::Reached { write, left });
+        return reached(w, most);
     }
     if here < w.left {
-        return Stepped::Done(Walked::Finished(Finish::Short));
+        return stopped(w, at, 0, Status::Short);
     }
-    Stepped::On(after_packet(s, w))
+    after_packet(s, w)
+}
+
+// What a walk that goes on no more has come to.
+fn come_to(s: &[u8], w: Walk) -> Walked
+    requires { ⌜ (w .status ≡ Going → ⊥) × Held (length (now s)) w ⌝ }
+    ensures { λ r. ⌜ r ≡ walkOf (now (s .entry)) w ⌝ }
+{
+    let at = w.at;
+    let status = w.status;
+    match status {
+        Status::Reached => Walked::Reached {
+            write: Write {
+                register: w.register,
+                word: word_at(s, at),
+                place: at,
+            },
+            left: w.left,
+        },
+        Status::Ended => Walked::Finished(Finish::Ended {
+            end: at,
+            writes: w.writes,
+        }),
+        Status::Iprog => Walked::Finished(Finish::Iprog {
+            place: at,
+            target: (w.wbstar % 0x2000_0000) as usize,
+        }),
+        Status::Fault => Walked::Finished(Finish::Fault { place: at }),
+        Status::Short => Walked::Finished(Finish::Short),
+        Status::Going => Walked::Finished(Finish::Short),
+    }
 }
 
 // The packets from where `start` is, to the write it was sent for or to their end.
 pub(crate) fn follow(s: &[u8], start: Walk) -> Walked
-    requires { ⌜ start .writes ≤ start .at ⌝ }
+    requires { ⌜ Held (length (now s)) start ⌝ }
     ensures comes { λ r. ⌜ r ≡ walkOf (now (s .entry)) start ⌝ }
     ensures inside { λ r. ⌜ Inside (length (now (s .entry))) r ⌝ }
 {
     let mut w = start;
     loop {
+        let status = w.status;
+        let Status::Going = status else {
+            return come_to(s, w);
+        };
         let left = w.left;
-        let step = if left == 0 {
+        w = if left == 0 {
             header_step(s, w)
         } else {
             data_step(s, w)
         };
-        match step {
-            Stepped::On(next) => {
-                w = next;
-            }
-            Stepped::Done(walked) => {
-                return walked;
-            }
-        }
     }
 }
 
@@ -245,5 +297,6 @@ pub(crate) fn from_sync(from: usize, skip: usize) -> Walk
         skip,
         writes: 0,
         wbstar: 0,
+        status: Status::Going,
     }
 }

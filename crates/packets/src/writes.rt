@@ -7,6 +7,7 @@ ghost use Rattle.packets.specs.Cursor.{cursorAt, rest, stepOf, told, aft
 use crate::header::Before;
 use crate::header::Effect;
 use crate::header::effect_of;
+use crate::walk::Status;
 use crate::walk::Walk;
 use crate::walk::Walked;
 use crate::walk::follow;
@@ -78,6 +79,7 @@ impl Cursor {
                 skip: 0,
                 writes: 0,
                 wbstar: 0,
+                status: Status::Going,
             },
         );
         let Walked::Reached { write, left } = walked else {

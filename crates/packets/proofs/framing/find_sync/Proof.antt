@@ -1,11 +1,11 @@
 -- `framing::find_sync` meets its contract. The outer loop's invariant: the search from here finds what the search from `from` finds. The inner one's: the bytes compared so far are those of the sync word.
 use Prim.Native.Nat.{ℕ, zero, suc, _+_, _-_, _≤_, _<_}
-use mathlib.Core.Path.{_≡_, refl, sym, subst, _∙_}
-use mathlib.Core.Logic.{⊎-elim}
-use native.Mathlib.Nat.{add-zero, eq-or-lt-of-le}
+use mathlib.Core.Path.{_≡_, refl, sym, _∙_}
+use native.Mathlib.Nat.{add-zero}
 use mathlib.Core.Bool.{false}
 use mathlib.Core.List.{List}
 use native.Mathlib.Omega.{arith}
+use borrow.Author.Count.{below-more}
 use borrow.Author.Needs.{needs}
 use lib.ListN.{length, getD, drop, length-drop}
 use Rattle.packets.specs.Framing.{syncBytes, starts, find}
@@ -14,11 +14,11 @@ use Rattle.packets.proofs.framing.find_sync.Statement.{statement}
 use Rattle.packets.proofs.framing.find_sync.Tie as tie
 
 abbrev Inv-loop : tie.InvT-loop
-Inv-loop s from at₀ left₀ at left =
-    (at ≡ at₀) × (left ≤ 4) × ((i : ℕ) → left ≤ i → i < 4 → getD s (at + i) 0 ≡ getD syncBytes i 0)
+Inv-loop s from at₀ i₀ at i =
+    (at ≡ at₀) × (i ≤ 4) × ((k : ℕ) → k < i → getD s (at + k) 0 ≡ getD syncBytes k 0)
 
 abbrev μ-loop : tie.MeasureT-loop
-μ-loop s from at₀ left₀ at left = left
+μ-loop s from at₀ i₀ at i = 4 - i
 
 abbrev Inv-search : tie.InvT-search
 Inv-search s from at₀ at = (at ≤ length s) × (find (drop at s) at ≡ find (drop from s) from)
@@ -33,10 +33,7 @@ sub-if1 : tie.Need-sub-if1 Inv-loop μ-loop Inv-search μ-search
 sub-if1 c = omega arith
 
 loop-holds : tie.Need-loop-holds Inv-loop μ-loop Inv-search μ-search
-loop-holds c = (refl, omega arith, λ i l h. absurd (omega arith))
-
-sub-left : tie.Need-sub-left Inv-loop μ-loop Inv-search μ-search
-sub-left c = omega arith
+loop-holds c = (refl, omega arith, λ k h. absurd (omega arith))
 
 add-if2 : tie.Need-add-if2 Inv-loop μ-loop Inv-search μ-search
 add-if2 c = omega arith
@@ -72,10 +69,6 @@ passed s at j r hj d hr h (suc i) hi =
     let e : at + suc i + (3 - suc i) ≡ at + 3 = omega arith in
     differs-at s (at + suc i) (3 - suc i) (omega arith) (rw e (h (suc i) (omega arith) hi))
 
--- what holds from `left` on and just below it holds from there on
-downward : (P : ℕ → Type 0) (left : ℕ) → 0 < left → P (left - 1) → ((i : ℕ) → left ≤ i → i < 4 → P i) → (i : ℕ) → left - 1 ≤ i → i < 4 → P i
-downward P left h p q i a b = ⊎-elim (λ e. subst P e p) (λ l. q i (omega arith) b) (eq-or-lt-of-le a)
-
 search-again : tie.Need-search-again Inv-loop μ-loop Inv-search μ-search
 search-again c =
     let at = c .before .before .before .before .before .loop .at in
@@ -83,9 +76,12 @@ search-again c =
     let moved : at + c .skip-after .result ≤ length s = omega arith in (
       moved,
       sym (find-past s (c .skip-after .result) at moved
-          (passed s at (c .before .before .before .before .before .loop .left - 1) (c .skip-after .result) (omega arith) (c .before .before .if2 .taken) (c .skip-after .ensures .0 .1) (c .skip-after .ensures .1)))
+          (passed s at (c .before .before .before .before .before .loop .i) (c .skip-after .result) (omega arith) (c .before .before .if2 .taken) (c .skip-after .ensures .0 .1) (c .skip-after .ensures .1)))
           ∙ rw (c .before .before .before .before .before .loop .inv .0) (c .before .before .before .before .before .before .before .search .inv .1),
     )
+
+add-i : tie.Need-add-i Inv-loop μ-loop Inv-search μ-search
+add-i c = omega arith
 
 loop-less : tie.Need-loop-less Inv-loop μ-loop Inv-search μ-search
 loop-less c = omega arith
@@ -94,7 +90,7 @@ loop-again : tie.Need-loop-again Inv-loop μ-loop Inv-search μ-search
 loop-again c = (
   c .before .before .before .loop .inv .0,
   omega arith,
-  downward _ (c .before .before .before .loop .left) (c .before .before .loop-test .taken) (c .if2 .left) (c .before .before .before .loop .inv .2),
+  below-more _ _ (c .before .before .before .loop .inv .2) (c .if2 .left),
 )
 
 returns : tie.Need-returns Inv-loop μ-loop Inv-search μ-search
@@ -105,7 +101,7 @@ returns-2 : tie.Need-returns-2 Inv-loop μ-loop Inv-search μ-search
 returns-2 c =
     let at = c .before .loop .at in
     let s = c .before .before .before .before .before .args .s .now in
-    sym (find-here (drop at s) at (stands-at s at (omega arith) (λ j h. c .before .loop .inv .2 j (omega arith) h)))
+    sym (find-here (drop at s) at (stands-at s at (omega arith) (λ j h. c .before .loop .inv .2 j (omega arith))))
     ∙ rw (c .before .loop .inv .0) (c .before .before .before .search .inv .1)
 
 pub find-sync-spec : {M : Type 1} → statement M
@@ -119,7 +115,6 @@ find-sync-spec =
     search-holds
     sub-if1
     loop-holds
-    sub-left
     add-if2
     shared-slice-read-if2
     array-read-if2
@@ -129,6 +124,7 @@ find-sync-spec =
     add-at
     search-less
     search-again
+    add-i
     loop-less
     loop-again
     returns

@@ -1,16 +1,11 @@
 -- `walk::data_step` meets its contract: the first data word that ends or jumps, the wanted one, too few words, or the whole packet.
-use Prim.Native.Nat.{ℕ, _+_, _-_, _*_, _/_, _<_, _≤_, min}
-use mathlib.Core.Path.{_≡_, refl, sym, ap, _∙_}
+use Prim.Native.Nat.{ℕ, _-_, _*_, _≤_, min}
+use mathlib.Core.Path.{_≡_, sym}
 use native.Mathlib.Omega.{arith}
-use lib.ListN.{length, getD, drop}
+use lib.ListN.{length, drop}
 use Rattle.packets.specs.Framing.{words}
-use Rattle.packets.specs.Packet.{effectOf}
-use Rattle.packets.specs.Walk.{resume, Moved}
-use Rattle.packets.specs.declared.header.Effect.the-variants.{GoesOn}
-use Rattle.packets.specs.declared.walk.Finish.{Finish}
-use Rattle.packets.specs.declared.walk.Walked.the-variants.{Finished}
-use Rattle.packets.proofs.FramingLaws.{room, word-after}
-use Rattle.packets.proofs.WalkLaws.{data-short, data-past, data-reached, data-end, packet-moved}
+use Rattle.packets.proofs.FramingLaws.{room}
+use Rattle.packets.proofs.WalkLaws.{data-short, data-past, data-reached, data-end}
 use borrow.Author.Needs.{needs}
 use Rattle.packets.proofs.walk.data_step.Statement.{statement}
 use Rattle.packets.proofs.walk.data_step.Tie as tie
@@ -39,55 +34,34 @@ quiet-requires : tie.Need-quiet-requires
 quiet-requires c κs = search needs
 
 ending-requires : tie.Need-ending-requires
-ending-requires c κs = let f = facts (c .before) in (omega arith, c .before .before .before .before .before .before .pre .1)
+ending-requires c κs = let f = facts (c .before) in (omega arith, c .before .before .before .before .before .before .pre .2)
 
 returns : tie.Need-returns
-unfolding resume Moved
-returns c = let f = facts (c .before .before) in (
-  ap (λ (e : Finish). Finished e) (c .ending .ensures)
-      ∙ data-end (c .before .before .before .before .before .before .before .args .s .now) (c .before .before .before .before .before .before .before .args .w) (c .before .before .before .before .before .before .before .pre .0) (c .before .before .quiet .result) (omega arith) (omega arith) (omega arith) (c .before .before .quiet .ensures .1 .0) (c .before .before .quiet .ensures .1 .1 (c .before .if1 .taken)),
-  tt,
-)
+returns c = let f = facts (c .before .before) in
+    rw (c .ending .ensures)
+    (data-end (c .before .before .before .before .before .before .before .args .s .now) (c .before .before .before .before .before .before .before .args .w) (c .before .before .before .before .before .before .before .pre .0) (c .before .before .before .before .before .before .before .pre .1) (c .before .before .before .before .before .before .before .pre .2) (c .before .before .quiet .result) (omega arith) (omega arith) (omega arith) (c .before .before .quiet .ensures .1 .0) (c .before .before .quiet .ensures .1 .1 (c .before .if1 .taken)))
 
-mul-place : tie.Need-mul-place
-mul-place c = let f = facts (c .before .before) in omega (arith, c .before .before .before .before .before .before .before .good)
-
-add-place : tie.Need-add-place
-add-place c = let f = facts (c .before .before) in omega (arith, c .before .before .before .before .before .before .before .good)
-
-word-at-requires : tie.Need-word-at-requires
-word-at-requires c κs = let f = facts (c .before .before) in omega arith
-
-sub-left : tie.Need-sub-left
-sub-left c = search needs
-
-sub-left-2 : tie.Need-sub-left-2
-sub-left-2 c = search needs
+reached-requires : tie.Need-reached-requires
+reached-requires c κs = let f = facts (c .before .before) in (omega arith, omega (arith, c .before .before .before .before .before .before .before .good))
 
 returns-2 : tie.Need-returns-2
-unfolding resume Moved
-returns-2 c = let f = facts (c .before .before .before .before) in
-    let e : c .before .before .before .before .before .smaller2 .result ≡ c .before .before .before .before .before .before .before .before .before .args .w .skip = omega arith in (
-      rw (c .before .word-at .ensures ∙ sym (word-after (c .before .before .before .before .before .before .before .before .before .args .s .now) (c .before .before .before .before .before .before .before .before .before .args .w .at) (c .before .before .before .before .before .smaller2 .result)), e)
-          (data-reached (c .before .before .before .before .before .before .before .before .before .args .s .now) (c .before .before .before .before .before .before .before .before .before .args .w) (c .before .before .before .before .before .before .before .before .before .pre .0) (omega arith) (omega arith) (λ i h. c .before .before .before .before .quiet .ensures .1 .0 i (omega arith))),
-      tt,
-    )
+returns-2 c = let f = facts (c .before .before .before) in
+    rw (c .reached .ensures)
+    (data-reached (c .before .before .before .before .before .before .before .before .args .s .now) (c .before .before .before .before .before .before .before .before .args .w) (c .before .before .before .before .before .before .before .before .pre .0) (c .before .before .before .before .before .before .before .before .pre .1) (c .before .before .before .before .before .before .before .before .pre .2) (c .before .before .before .before .smaller2 .result) (omega arith) (omega arith) (omega arith) (λ i h. c .before .before .before .quiet .ensures .1 .0 i (omega arith)))
+
+stopped-requires : tie.Need-stopped-requires
+stopped-requires c κs = search needs
 
 returns-3 : tie.Need-returns-3
-unfolding resume Moved
-returns-3 c = let f = facts (c .before .before .before .before) in
-    (data-short (c .before .before .before .before .before .before .before .before .before .args .s .now) (c .before .before .before .before .before .before .before .before .before .args .w) (c .before .before .before .before .before .before .before .before .before .pre .0) (omega arith) (omega arith) (λ i h. c .before .before .before .before .quiet .ensures .1 .0 i (omega arith)), tt)
+returns-3 c = let f = facts (c .before .before .before .before .before) in
+    rw (c .stopped .ensures) (data-short (c .before .before .before .before .before .before .before .before .before .before .args .s .now) (c .before .before .before .before .before .before .before .before .before .before .args .w) (c .before .before .before .before .before .before .before .before .before .before .pre .0) (c .before .before .before .before .before .before .before .before .before .before .pre .1) (c .before .before .before .before .before .before .before .before .before .before .pre .2) (omega arith) (omega arith) (λ i h. c .before .before .before .before .before .quiet .ensures .1 .0 i (omega arith)))
 
 after-packet-requires : tie.Need-after-packet-requires
-after-packet-requires c κs = let f = facts (c .before .before .before .before) in (c .before .before .before .before .before .before .before .before .before .pre .0, omega arith, omega arith, c .before .before .before .before .before .before .before .before .before .pre .1)
+after-packet-requires c κs = let f = facts (c .before .before .before .before) in (c .before .before .before .before .before .before .before .before .before .pre .1, omega arith, omega arith, c .before .before .before .before .before .before .before .before .before .pre .2)
 
 returns-4 : tie.Need-returns-4
-unfolding resume
 returns-4 c = let f = facts (c .before .before .before .before .before) in
-    rw (c .after-packet .ensures) (
-      data-past (c .before .before .before .before .before .before .before .before .before .before .args .s .now) (c .before .before .before .before .before .before .before .before .before .before .args .w) (c .before .before .before .before .before .before .before .before .before .before .pre .0) (omega arith) (omega arith) (λ i h. c .before .before .before .before .before .quiet .ensures .1 .0 i (omega arith)),
-      packet-moved (c .before .before .before .before .before .before .before .before .before .before .args .s .now) (c .before .before .before .before .before .before .before .before .before .before .args .w) _ (c .before .before .before .before .before .before .before .before .before .before .pre .0) (omega arith) (c .before .before .before .before .before .before .before .before .before .before .pre .1),
-    )
+    rw (c .after-packet .ensures) (data-past (c .before .before .before .before .before .before .before .before .before .before .args .s .now) (c .before .before .before .before .before .before .before .before .before .before .args .w) (c .before .before .before .before .before .before .before .before .before .before .pre .0) (c .before .before .before .before .before .before .before .before .before .before .pre .1) (c .before .before .before .before .before .before .before .before .before .before .pre .2) (omega arith) (omega arith) (λ i h. c .before .before .before .before .before .quiet .ensures .1 .0 i (omega arith)))
 
 pub data-step-spec : {M : Type 1} → statement M
 data-step-spec =
@@ -99,12 +73,9 @@ data-step-spec =
     quiet-requires
     ending-requires
     returns
-    mul-place
-    add-place
-    word-at-requires
-    sub-left
-    sub-left-2
+    reached-requires
     returns-2
+    stopped-requires
     returns-3
     after-packet-requires
     returns-4)

@@ -4,7 +4,7 @@ use mathlib.Core.Path.{_≡_, sym, ap, _∙_}
 use native.Mathlib.Omega.{arith}
 use lib.ListN.{length}
 use Rattle.packets.specs.Reading.{finishFrom}
-use Rattle.packets.specs.Walk.{walkOf}
+use Rattle.packets.specs.Walk.{walkOf, HeldBy}
 use Rattle.packets.specs.declared.walk.Finish.{Finish}
 use Rattle.packets.specs.declared.walk.Walked.the-variants.{Finished}
 use Rattle.packets.proofs.WalkLaws.{finish-walk}
@@ -22,6 +22,7 @@ from-sync-requires : tie.Need-from-sync-requires
 from-sync-requires c κs = search needs
 
 follow-requires : tie.Need-follow-requires
+unfolding HeldBy
 follow-requires c κs = rw (c .from-sync .ensures) (omega arith)
 
 enum-known-walked : tie.Need-enum-known-walked

@@ -1,54 +1,55 @@
 -- `walk::follow` meets its contract. The invariant: the walk from here comes to what the walk from the start comes to.
-use Prim.Native.Nat.{ℕ, _+_, _-_, _<_, _≤_}
-use mathlib.Core.Path.{_≡_, refl, sym, ap, subst, _∙_}
+use Prim.Native.Nat.{_≤_}
+use mathlib.Core.Path.{_≡_, refl, sym, _∙_}
 use mathlib.Core.Logic.{⊎-elim}
 use native.Mathlib.Omega.{arith}
 use borrow.Author.Needs.{needs}
 use lib.ListN.{length}
-use Rattle.packets.specs.Walk.{walkOf, resume, Moved, Inside}
+use Rattle.packets.specs.Walk.{walkOf, HeldBy, Held, leftBy, Inside}
 use Rattle.packets.proofs.WalkLaws.{inside}
 use Rattle.packets.proofs.walk.follow.Statement.{statement}
 use Rattle.packets.proofs.walk.follow.Tie as tie
 
 abbrev Inv-loop : tie.InvT-loop
-Inv-loop s w₀ w = (w .writes ≤ w .at) × (walkOf s w ≡ walkOf s w₀)
+Inv-loop s w₀ w = Held (length s) w × (walkOf s w ≡ walkOf s w₀)
 
 abbrev μ-loop : tie.MeasureT-loop
-μ-loop s w₀ w = length s - w .at
+μ-loop s w₀ w = leftBy (w .status) (length s) (w .at)
 
 loop-holds : tie.Need-loop-holds Inv-loop μ-loop
-loop-holds c = (omega arith, refl)
+loop-holds c = (c .before .pre, refl)
 
-header-step-requires : tie.Need-header-step-requires Inv-loop μ-loop
-header-step-requires c κs = (c .if1 .taken, c .before .loop .inv .0)
+enum-told : tie.Need-enum-told Inv-loop μ-loop
+enum-told c = search needs
 
-data-step-requires : tie.Need-data-step-requires Inv-loop μ-loop
-data-step-requires c κs = (omega arith, c .before .loop .inv .0)
-
-enum-known-step : tie.Need-enum-known-step Inv-loop μ-loop
-enum-known-step c = search needs
-
--- what either step ensures
-stepped : (c : tie.Joined1 Inv-loop μ-loop) →
-    (resume (c .before .before .before .args .s .now) (c .if1 .step) ≡ walkOf (c .before .before .before .args .s .now) (c .before .loop .w))
-    × Moved (length (c .before .before .before .args .s .now)) (c .before .loop .w .at) (c .if1 .step)
-stepped c = ⊎-elim (λ v. rw (v .2) (v .1 .ensures)) (λ v. rw (v .2) (v .1 .ensures)) (c .if1 .came)
-
-loop-less : tie.Need-loop-less Inv-loop μ-loop
-unfolding Moved
-loop-less c = let m = rw (c .before .step .given .1) at (stepped (c .before .before .before) .1) in omega arith
-
-loop-again : tie.Need-loop-again Inv-loop μ-loop
-unfolding resume Moved
-loop-again c = (rw (c .before .step .given .1) at (stepped (c .before .before .before) .1) .1, rw (c .before .step .given .1) at (stepped (c .before .before .before) .0) ∙ c .before .before .before .before .loop .inv .1)
-
-enum-known-step-2 : tie.Need-enum-known-step-2 Inv-loop μ-loop
-enum-known-step-2 c = search needs
+come-to-requires : tie.Need-come-to-requires Inv-loop μ-loop
+come-to-requires c κs = (λ e. ⊎-elim (λ z. omega arith) (⊎-elim (λ z. omega arith) (⊎-elim (λ z. omega arith) (⊎-elim (λ z. omega arith) (λ z. omega arith)))) (rw e at (c .match .keys2)), c .before .loop .inv .0)
 
 returns : tie.Need-returns Inv-loop μ-loop
-unfolding resume
-returns c = let e = rw (c .before .step2 .given .1) at (stepped (c .before .before .before) .0) ∙ c .before .before .before .before .loop .inv .1 in
-    (e, rw e (inside (c .before .before .before .before .before .before .args .s .now) (c .before .before .before .before .before .before .args .start)))
+returns c = let e = c .come-to .ensures ∙ c .before .before .loop .inv .1 in
+    (e, rw e (inside (c .before .before .before .before .args .s .now) (c .before .before .before .before .args .start) (c .before .before .before .before .pre)))
+
+header-step-requires : tie.Need-header-step-requires Inv-loop μ-loop
+unfolding HeldBy
+header-step-requires c κs = (c .before .enum-told .given .1, c .if1 .taken, rw (c .before .enum-told .given .1) at (c .before .before .before .loop .inv .0))
+
+data-step-requires : tie.Need-data-step-requires Inv-loop μ-loop
+unfolding HeldBy
+data-step-requires c κs = (c .before .enum-told .given .1, omega arith, rw (c .before .enum-told .given .1) at (c .before .before .before .loop .inv .0))
+
+loop-less : tie.Need-loop-less Inv-loop μ-loop
+unfolding leftBy
+loop-less c = let n = c .header-step .ensures .nearer in rw (c .before .before .enum-told .given .1) (omega arith)
+
+loop-again : tie.Need-loop-again Inv-loop μ-loop
+loop-again c = (c .header-step .ensures .held, c .header-step .ensures .same ∙ c .before .before .before .before .loop .inv .1)
+
+loop-less-2 : tie.Need-loop-less-2 Inv-loop μ-loop
+unfolding leftBy
+loop-less-2 c = let n = c .data-step .ensures .nearer in rw (c .before .before .enum-told .given .1) (omega arith)
+
+loop-again-2 : tie.Need-loop-again-2 Inv-loop μ-loop
+loop-again-2 c = (c .data-step .ensures .held, c .data-step .ensures .same ∙ c .before .before .before .before .loop .inv .1)
 
 pub follow-spec : {M : Type 1} → statement M
 follow-spec =
@@ -57,10 +58,12 @@ follow-spec =
     Inv-loop
     μ-loop
     loop-holds
+    enum-told
+    come-to-requires
+    returns
     header-step-requires
     data-step-requires
-    enum-known-step
     loop-less
     loop-again
-    enum-known-step-2
-    returns)
+    loop-less-2
+    loop-again-2)

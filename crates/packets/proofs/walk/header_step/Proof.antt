@@ -2,13 +2,12 @@
 use Prim.Native.Nat.{_+_, _<_, _≤_}
 use mathlib.Core.Path.{_≡_, refl, sym, ap, _∙_}
 use native.Mathlib.Omega.{arith}
-use lib.ListN.{length, getD, drop}
-use Rattle.packets.specs.Framing.{words}
+use lib.ListN.{length, drop}
+use Rattle.packets.specs.Framing.{words, wordAt}
 use Rattle.packets.specs.Packet.{headOf}
 use Rattle.packets.specs.Reading.{afterHeader, modeOf}
-use Rattle.packets.specs.Walk.{resume, Moved}
 use Rattle.packets.proofs.FramingLaws.{room}
-use Rattle.packets.proofs.WalkLaws.{header-short, header-on, header-fault, header-moved}
+use Rattle.packets.proofs.WalkLaws.{header-short, header-on, header-fault}
 use borrow.Author.Needs.{needs}
 use Rattle.packets.proofs.walk.header_step.Statement.{statement}
 use Rattle.packets.proofs.walk.header_step.Tie as tie
@@ -20,15 +19,17 @@ fits c = omega (arith, room (c .before .before .before .before .args .s .now) (c
 word-there : (c : tie.After-word-at) → 0 < length (words (drop (c .before .before .before .before .args .w .at) (c .before .before .before .before .args .s .now)))
 word-there c = omega (arith, c .before .before .words-from .ensures)
 
-head-is : (c : tie.After-header-of) → headOf (getD (words (drop (c .before .before .before .before .before .args .w .at) (c .before .before .before .before .before .args .s .now))) 0 0) ≡ c .header-of .result
+head-is : (c : tie.After-header-of) → headOf (wordAt (c .before .before .before .before .before .args .s .now) (c .before .before .before .before .before .args .w .at)) ≡ c .header-of .result
 head-is c = sym (c .header-of .ensures ∙ ap headOf (c .before .word-at .ensures))
 
 words-from-requires : tie.Need-words-from-requires
 words-from-requires c κs = search needs
 
+stopped-requires : tie.Need-stopped-requires
+stopped-requires c κs = search needs
+
 returns : tie.Need-returns
-unfolding resume Moved
-returns c = (header-short (c .before .before .before .args .s .now) (c .before .before .before .args .w) (c .before .before .before .pre .0) (sym (c .before .words-from .ensures) ∙ c .if1 .taken), tt)
+returns c = rw (c .stopped .ensures) (header-short (c .before .before .before .before .args .s .now) (c .before .before .before .before .args .w) (c .before .before .before .before .pre .0) (c .before .before .before .before .pre .1) (c .before .before .before .before .pre .2) (sym (c .before .before .words-from .ensures) ∙ c .before .if1 .taken))
 
 word-at-requires : tie.Need-word-at-requires
 word-at-requires c κs = omega (arith, room (c .before .before .before .args .s .now) (c .before .before .before .args .w .at), c .before .words-from .ensures)
@@ -40,7 +41,7 @@ enum-told : tie.Need-enum-told
 enum-told c = search needs
 
 after-header-requires : tie.Need-after-header-requires
-after-header-requires c κs = let l : c .before .before .before .before .before .before .before .args .w .at + 4 ≤ length (c .before .before .before .before .before .before .before .args .s .now) = fits (c .before .before .before) in omega (arith, c .before .before .before .before .before .before .before .good)
+after-header-requires c κs = let l = fits (c .before .before .before) in omega (arith, c .before .before .before .before .before .before .before .good)
 
 enum-known-header : tie.Need-enum-known-header
 enum-known-header c = search needs
@@ -49,7 +50,7 @@ cast-after-header : tie.Need-cast-after-header
 cast-after-header c = search needs
 
 after-header-requires-2 : tie.Need-after-header-requires-2
-after-header-requires-2 c κs = let l : c .before .before .before .before .before .before .before .before .args .w .at + 4 ≤ length (c .before .before .before .before .before .before .before .before .args .s .now) = fits (c .before .before .before .before) in omega (arith, c .before .before .before .before .before .before .before .before .good)
+after-header-requires-2 c κs = let l = fits (c .before .before .before .before) in omega (arith, c .before .before .before .before .before .before .before .before .good)
 
 enum-known-header-2 : tie.Need-enum-known-header-2
 enum-known-header-2 c = search needs
@@ -60,49 +61,47 @@ enum-known-before c = search needs
 enum-told-2 : tie.Need-enum-told-2
 enum-told-2 c = search needs
 
+stopped-requires-2 : tie.Need-stopped-requires-2
+stopped-requires-2 c κs = search needs
+
 returns-2 : tie.Need-returns-2
-unfolding resume Moved afterHeader
-returns-2 c = (header-fault (c .before .before .before .before .before .before .before .before .before .before .args .s .now) (c .before .before .before .before .before .before .before .before .before .before .args .w) (c .before .before .before .before .before .before .before .before .before .before .pre .0) (word-there (c .before .before .before .before .before .before)) (rw (head-is (c .before .before .before .before .before) ∙ c .before .before .before .header2 .given .1, c .enum-told2 .given .1) refl), tt)
+unfolding afterHeader
+returns-2 c = rw (c .stopped2 .ensures) (header-fault (c .before .before .before .before .before .before .before .before .before .before .before .args .s .now) (c .before .before .before .before .before .before .before .before .before .before .before .args .w) (c .before .before .before .before .before .before .before .before .before .before .before .pre .0) (c .before .before .before .before .before .before .before .before .before .before .before .pre .1) (c .before .before .before .before .before .before .before .before .before .before .before .pre .2) (word-there (c .before .before .before .before .before .before .before)) (rw (head-is (c .before .before .before .before .before .before) ∙ c .before .before .before .before .header2 .given .1, c .before .enum-told2 .given .1) refl))
 
 cast-after-header-2 : tie.Need-cast-after-header-2
 cast-after-header-2 c = search needs
 
 after-header-requires-3 : tie.Need-after-header-requires-3
-after-header-requires-3 c κs = let l : c .before .before .before .before .before .before .before .before .before .before .before .args .w .at + 4 ≤ length (c .before .before .before .before .before .before .before .before .before .before .before .args .s .now) = fits (c .before .before .before .before .before .before .before) in omega (arith, c .before .before .before .before .before .before .before .before .before .before .before .good)
+after-header-requires-3 c κs = let l = fits (c .before .before .before .before .before .before .before) in omega (arith, c .before .before .before .before .before .before .before .before .before .before .before .good)
 
 enum-told-3 : tie.Need-enum-told-3
 enum-told-3 c = search needs
 
+stopped-requires-3 : tie.Need-stopped-requires-3
+stopped-requires-3 c κs = search needs
+
 returns-3 : tie.Need-returns-3
-unfolding resume afterHeader modeOf
-returns-3 c = rw (c .after-header .ensures) (
-  header-on (c .before .before .before .before .before .before .before .before .args .s .now) (c .before .before .before .before .before .before .before .before .args .w) (c .before .before .before .before .before .before .before .before .pre .0) (word-there (c .before .before .before .before)) _ _ _ (rw (head-is (c .before .before .before) ∙ c .before .enum-told .given .1) refl),
-  header-moved (c .before .before .before .before .before .before .before .before .args .w) _ _ _ _ (fits (c .before .before .before .before)) (c .before .before .before .before .before .before .before .before .pre .1),
-)
+unfolding afterHeader modeOf
+returns-3 c = rw (c .after-header .ensures) (header-on (c .before .before .before .before .before .before .before .before .args .s .now) (c .before .before .before .before .before .before .before .before .args .w) (c .before .before .before .before .before .before .before .before .pre .0) (c .before .before .before .before .before .before .before .before .pre .1) (c .before .before .before .before .before .before .before .before .pre .2) (word-there (c .before .before .before .before)) _ _ _ (rw (head-is (c .before .before .before) ∙ c .before .enum-told .given .1) refl))
 
 returns-4 : tie.Need-returns-4
-unfolding resume afterHeader modeOf
-returns-4 c = rw (c .after-header2 .ensures) (
-  header-on (c .before .before .before .before .before .before .before .before .before .args .s .now) (c .before .before .before .before .before .before .before .before .before .args .w) (c .before .before .before .before .before .before .before .before .before .pre .0) (word-there (c .before .before .before .before .before)) _ _ _ (rw (head-is (c .before .before .before .before) ∙ c .before .before .header .given .1) refl),
-  header-moved (c .before .before .before .before .before .before .before .before .before .args .w) _ _ _ _ (fits (c .before .before .before .before .before)) (c .before .before .before .before .before .before .before .before .before .pre .1),
-)
+unfolding afterHeader modeOf
+returns-4 c = rw (c .after-header2 .ensures) (header-on (c .before .before .before .before .before .before .before .before .before .args .s .now) (c .before .before .before .before .before .before .before .before .before .args .w) (c .before .before .before .before .before .before .before .before .before .pre .0) (c .before .before .before .before .before .before .before .before .before .pre .1) (c .before .before .before .before .before .before .before .before .before .pre .2) (word-there (c .before .before .before .before .before)) _ _ _ (rw (head-is (c .before .before .before .before) ∙ c .before .before .header .given .1) refl))
 
 returns-5 : tie.Need-returns-5
-unfolding resume afterHeader modeOf
-returns-5 c = rw (c .after-header3 .ensures) (
-  header-on (c .before .before .before .before .before .before .before .before .before .before .before .before .args .s .now) (c .before .before .before .before .before .before .before .before .before .before .before .before .args .w) (c .before .before .before .before .before .before .before .before .before .before .before .before .pre .0) (word-there (c .before .before .before .before .before .before .before .before)) _ _ _ (rw (head-is (c .before .before .before .before .before .before .before) ∙ c .before .before .before .before .before .header2 .given .1, c .before .before .before2 .given .1) refl),
-  header-moved (c .before .before .before .before .before .before .before .before .before .before .before .before .args .w) _ _ _ _ (fits (c .before .before .before .before .before .before .before .before)) (c .before .before .before .before .before .before .before .before .before .before .before .before .pre .1),
-)
+unfolding afterHeader modeOf
+returns-5 c = rw (c .after-header3 .ensures) (header-on (c .before .before .before .before .before .before .before .before .before .before .before .before .args .s .now) (c .before .before .before .before .before .before .before .before .before .before .before .before .args .w) (c .before .before .before .before .before .before .before .before .before .before .before .before .pre .0) (c .before .before .before .before .before .before .before .before .before .before .before .before .pre .1) (c .before .before .before .before .before .before .before .before .before .before .before .before .pre .2) (word-there (c .before .before .before .before .before .before .before .before)) _ _ _ (rw (head-is (c .before .before .before .before .before .before .before) ∙ c .before .before .before .before .before .header2 .given .1, c .before .before .before2 .given .1) refl))
 
 returns-6 : tie.Need-returns-6
-unfolding resume Moved afterHeader
-returns-6 c = (header-fault (c .before .before .before .before .before .before .before .args .s .now) (c .before .before .before .before .before .before .before .args .w) (c .before .before .before .before .before .before .before .pre .0) (word-there (c .before .before .before)) (rw (head-is (c .before .before) ∙ c .enum-told3 .given .1) refl), tt)
+unfolding afterHeader
+returns-6 c = rw (c .stopped3 .ensures) (header-fault (c .before .before .before .before .before .before .before .before .args .s .now) (c .before .before .before .before .before .before .before .before .args .w) (c .before .before .before .before .before .before .before .before .pre .0) (c .before .before .before .before .before .before .before .before .pre .1) (c .before .before .before .before .before .before .before .before .pre .2) (word-there (c .before .before .before .before)) (rw (head-is (c .before .before .before) ∙ c .before .enum-told3 .given .1) refl))
 
 pub header-step-spec : {M : Type 1} → statement M
 header-step-spec =
     tie.close
     (tie.spec
     words-from-requires
+    stopped-requires
     returns
     word-at-requires
     header-of-requires
@@ -114,10 +113,12 @@ header-step-spec =
     enum-known-header-2
     enum-known-before
     enum-told-2
+    stopped-requires-2
     returns-2
     cast-after-header-2
     after-header-requires-3
     enum-told-3
+    stopped-requires-3
     returns-3
     returns-4
     returns-5

@@ -2,7 +2,7 @@
 use mathlib.Core.Path.{_≡_, sym, ap, _∙_}
 use native.Mathlib.Omega.{arith}
 use Rattle.packets.specs.Reading.{nthWrite, writesFrom}
-use Rattle.packets.specs.Walk.{walkOf}
+use Rattle.packets.specs.Walk.{walkOf, HeldBy}
 use Rattle.packets.proofs.WalkLaws.{cameTo, nth-walk}
 use borrow.Author.Needs.{needs}
 use Rattle.packets.proofs.writes.nth_from.Statement.{statement}
@@ -17,6 +17,7 @@ from-sync-requires : tie.Need-from-sync-requires
 from-sync-requires c κs = search needs
 
 follow-requires : tie.Need-follow-requires
+unfolding HeldBy
 follow-requires c κs = rw (c .from-sync .ensures) (omega arith)
 
 enum-known-walked : tie.Need-enum-known-walked
