@@ -8,10 +8,9 @@ use lib.ListN.{length, getD, drop, take}
 use lib.Seq.{take-nil}
 use Rattle.packets.specs.Framing.{words}
 use Rattle.packets.specs.Packet.{headOf, effectOf}
-use Rattle.packets.specs.Reading.{Mode, header, payload, modeOf, afterHeader, Trace, wrote, ended, jumps, faulty, short, trace, listOf, nthWrite}
+use Rattle.packets.specs.Reading.{other, Mode, header, payload, modeOf, afterHeader, Trace, wrote, ended, jumps, faulty, short, trace, listOf, nthWrite}
 use Rattle.packets.specs.Walk.{walked}
 use Rattle.packets.specs.Cursor.{traceAt, rest, afterWrite, firstOf, stepOf, told, nthStep}
-use Rattle.packets.specs.declared.header.Before.the-variants.{Other}
 use Rattle.packets.specs.declared.header.Effect.{Effect}
 use Rattle.packets.specs.declared.header.Effect.the-variants.{GoesOn, Desync, Iprog as Jumps}
 use Rattle.packets.specs.declared.walk.Walked.{Walked}
@@ -75,7 +74,7 @@ told-rest s c = go (c .remaining) refl
   where
     go : (n : ℕ) → c .remaining ≡ n → told s (stepOf s c) ≡ rest s c
     go zero e = rw (e, stepOf) refl
-    go (suc n) e = rw (e, stepOf) (first-told s (words (drop (c .at) s)) (c .at) (modeOf (c .left) (c .register) Other) n refl)
+    go (suc n) e = rw (e, stepOf) (first-told s (words (drop (c .at) s)) (c .at) (modeOf (c .left) (c .register) other) n refl)
 
 -- the write of a step
 unfoldable pub given : CursorStep → WriteAnswer

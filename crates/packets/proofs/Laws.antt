@@ -9,10 +9,9 @@ use lib.ListN.{length, getD, drop, length-drop}
 use lib.Seq.{getD-drop}
 use Rattle.packets.specs.Framing.{syncBytes, starts, find, words, wordAt}
 use Rattle.packets.specs.Packet.{ask, registerOk, type1Of, headOf, effectOf}
-use Rattle.packets.specs.Reading.{header, modeOf, afterHeader, trace, finish, finishFrom, writesFrom, searchFrom, jump, readFrom, listed, contents}
+use Rattle.packets.specs.Reading.{other, header, modeOf, afterHeader, trace, finish, finishFrom, writesFrom, searchFrom, jump, readFrom, listed, contents}
 use Rattle.packets.specs.declared.framing.Found.{Found}
 use Rattle.packets.specs.declared.framing.Found.the-variants.{At, Nothing as NoSync}
-use Rattle.packets.specs.declared.header.Before.the-variants.{Other}
 use Rattle.packets.specs.declared.walk.Finish.the-variants.{Ended, Iprog, Short}
 use Rattle.packets.specs.declared.reader.Outcome.{Outcome}
 use Rattle.packets.specs.declared.reader.Outcome.the-variants.{Loaded}
@@ -113,7 +112,7 @@ four-words t p l =
     next : (q : ℕ) → q + 4 ≤ length t → words (drop q t) ≡ wordAt t q ∷ words (drop (q + 4) t)
     next q h = words-cons t q (let r = room t q in omega arith)
 
-header-jumps : (to p : ℕ) (rest : List ℕ) → finish (trace (0x30020001 ∷ to ∷ 0x30008001 ∷ 0x0000000F ∷ rest) p (header Other)) 0 0 ≡ Iprog (p + 4 + 4 + 4) (to % 2 ^ 29)
+header-jumps : (to p : ℕ) (rest : List ℕ) → finish (trace (0x30020001 ∷ to ∷ 0x30008001 ∷ 0x0000000F ∷ rest) p (header other)) 0 0 ≡ Iprog (p + 4 + 4 + 4) (to % 2 ^ 29)
 unfolding trace finish afterHeader headOf type1Of ask registerOk effectOf modeOf
 header-jumps to p rest = refl
 
@@ -125,7 +124,7 @@ jumps-to left jumped t from sync to e l a b c d far near =
     let p₁ : sync + 4 + 4 ≡ sync + 8 = omega arith in
     let p₂ : sync + 8 + 4 ≡ sync + 12 = omega arith in
     let p₃ : sync + 12 + 4 ≡ sync + 16 = omega arith in
-    let fin = rw (p₁, p₂, p₃, a, b, c, d) at (ap (λ (ws : List ℕ). finish (trace ws (sync + 4) (header Other)) 0 0) (four-words t (sync + 4) (omega arith))) in
+    let fin = rw (p₁, p₂, p₃, a, b, c, d) at (ap (λ (ws : List ℕ). finish (trace ws (sync + 4) (header other)) 0 0) (four-words t (sync + 4) (omega arith))) in
     let stays : to % 2 ^ 29 ≡ to = mod-eq-of-lt near in
     search-found (jump (suc left) t) jumped t from sync e
     ∙ read-jump (jump (suc left) t) jumped t sync _ _ (fin ∙ header-jumps to (sync + 4) _)

@@ -10,9 +10,8 @@ use lib.ListN.{length, getD, drop, length-drop}
 use lib.Seq.{getD-drop}
 use Rattle.packets.specs.Framing.{syncBytes, starts, find, words}
 use Rattle.packets.specs.Packet.{headOf, effectOf}
-use Rattle.packets.specs.Reading.{Mode, header, payload, modeOf, afterHeader, Trace, wrote, ended, jumps, faulty, short, trace, lastWbstar, finish, listOf, finishFrom, writesFrom, readFrom, jump, contents}
+use Rattle.packets.specs.Reading.{other, Mode, header, payload, modeOf, afterHeader, Trace, wrote, ended, jumps, faulty, short, trace, lastWbstar, finish, listOf, finishFrom, writesFrom, readFrom, jump, contents}
 use Rattle.packets.specs.declared.framing.Found.the-variants.{At, Nothing as NoSync}
-use Rattle.packets.specs.declared.header.Before.the-variants.{Other}
 use Rattle.packets.specs.declared.header.Effect.{Effect}
 use Rattle.packets.specs.declared.header.Effect.the-variants.{GoesOn, Desync, Iprog as Jumps}
 use Rattle.packets.specs.declared.walk.Finish.{Finish}
@@ -87,10 +86,10 @@ looked (x ∷ ws) p (header before) n wbstar f e h = go (afterHeader (headOf x) 
     go none a ih = let k : p + 4 ≡ lookedTo f = ap lookedTo (rw (trace-fault x ws p before a) at e) in omega arith
     go (some m) a ih = let w = ih m (rw (trace-header x ws p before m a) at e) in omega arith
 looked (x ∷ ws) p (payload register left) n wbstar f e h =
-    go (effectOf register x) refl (λ q. looked ws (p + 4) (modeOf left register Other) (n + 1) (lastWbstar (record { register = register; word = x; place = p }) wbstar) f q h)
+    go (effectOf register x) refl (λ q. looked ws (p + 4) (modeOf left register other) (n + 1) (lastWbstar (record { register = register; word = x; place = p }) wbstar) f q h)
   where
     go : (o : Effect) → effectOf register x ≡ o →
-        (finish (trace ws (p + 4) (modeOf left register Other)) (n + 1) (lastWbstar (record { register = register; word = x; place = p }) wbstar) ≡ f → (p + 4 + 4 ≤ lookedTo f) × (lookedTo f ≤ p + 4 + 4 * length ws)) →
+        (finish (trace ws (p + 4) (modeOf left register other)) (n + 1) (lastWbstar (record { register = register; word = x; place = p }) wbstar) ≡ f → (p + 4 + 4 ≤ lookedTo f) × (lookedTo f ≤ p + 4 + 4 * length ws)) →
         (p + 4 ≤ lookedTo f) × (lookedTo f ≤ p + 4 * suc (length ws))
     go GoesOn a ih = let w = ih (rw (trace-data x ws p register left a) at e) in omega arith
     go Desync a ih = let k : p + 4 ≡ lookedTo f = ap lookedTo (rw (trace-desync x ws p register left a) at e) in omega arith
@@ -126,7 +125,7 @@ trace-moved (x ∷ ws) (y ∷ vs) d p (header before) n wbstar f e h same =
         rw (trace-header x vs (d + p) before m a, trace-header x ws p before m a, add-assoc d p 4)
         (ih m (rw (trace-header x ws p before m a) at e) h (λ i l. let w = same (suc i) (omega arith) in (omega arith, w .1)))
 trace-moved (x ∷ ws) (y ∷ vs) d p (payload register left) n wbstar f e h same =
-    rw (first) (go (effectOf register x) refl (trace-moved ws vs d (p + 4) (modeOf left register Other) (n + 1) (lastWbstar (record { register = register; word = x; place = p }) wbstar) f))
+    rw (first) (go (effectOf register x) refl (trace-moved ws vs d (p + 4) (modeOf left register other) (n + 1) (lastWbstar (record { register = register; word = x; place = p }) wbstar) f))
   where
     first : y ≡ x
     first = let l = looked (x ∷ ws) p (payload register left) n wbstar f e h in same 0 (omega arith) .1
@@ -135,9 +134,9 @@ trace-moved (x ∷ ws) (y ∷ vs) d p (payload register left) n wbstar f e h sam
     Goal moved here n wbstar = (finish moved n wbstar ≡ movedFinish d f) × (listOf moved ≡ map (movedWrite d) (listOf here))
 
     go : (o : Effect) → effectOf register x ≡ o →
-        (finish (trace ws (p + 4) (modeOf left register Other)) (n + 1) (lastWbstar (record { register = register; word = x; place = p }) wbstar) ≡ f → (f ≡ Short → ⊥) →
+        (finish (trace ws (p + 4) (modeOf left register other)) (n + 1) (lastWbstar (record { register = register; word = x; place = p }) wbstar) ≡ f → (f ≡ Short → ⊥) →
         ((i : ℕ) → p + 4 + 4 * i + 4 ≤ lookedTo f → (i < length vs) × (getD vs i 0 ≡ getD ws i 0)) →
-        Goal (trace vs (d + (p + 4)) (modeOf left register Other)) (trace ws (p + 4) (modeOf left register Other)) (n + 1) (lastWbstar (record { register = register; word = x; place = p }) wbstar)) →
+        Goal (trace vs (d + (p + 4)) (modeOf left register other)) (trace ws (p + 4) (modeOf left register other)) (n + 1) (lastWbstar (record { register = register; word = x; place = p }) wbstar)) →
         Goal (trace (x ∷ vs) (d + p) (payload register left)) (trace (x ∷ ws) p (payload register left)) n wbstar
     go GoesOn a ih =
         let r = ih (rw (trace-data x ws p register left a) at e) h (λ i l. let w = same (suc i) (omega arith) in (omega arith, w .1)) in
@@ -154,10 +153,10 @@ trace-moved (x ∷ ws) (y ∷ vs) d p (payload register left) n wbstar f e h sam
 pub finish-moved : (s t : List ℕ) (d from : ℕ) (f : Finish) → finishFrom s from ≡ f → (f ≡ Short → ⊥) → d + lookedTo f ≤ length t →
     ((i : ℕ) → from ≤ i → i < lookedTo f → getD t (d + i) 0 ≡ getD s i 0) →
     (finishFrom t (d + from) ≡ movedFinish d f) × (writesFrom t (d + from) ≡ map (movedWrite d) (writesFrom s from))
-finish-moved s t d from f e h l same = trace-moved (words (drop from s)) (words (drop (d + from) t)) d from (header Other) 0 0 f e h words-same
+finish-moved s t d from f e h l same = trace-moved (words (drop from s)) (words (drop (d + from) t)) d from (header other) 0 0 f e h words-same
   where
     within : (from + 4 ≤ lookedTo f) × (lookedTo f ≤ from + 4 * length (words (drop from s)))
-    within = looked (words (drop from s)) from (header Other) 0 0 f e h
+    within = looked (words (drop from s)) from (header other) 0 0 f e h
 
     byte : (i k : ℕ) → from + 4 * i + 4 ≤ lookedTo f → k < 4 → getD t (d + from + 4 * i + k) 0 ≡ getD s (from + 4 * i + k) 0
     byte i k b c = let q : d + from + 4 * i + k ≡ d + (from + 4 * i + k) = omega arith in rw q (same (from + 4 * i + k) (omega arith) (omega arith))
@@ -176,5 +175,5 @@ pub ended-after : (s : List ℕ) (from end writes : ℕ) → finishFrom s from �
 unfolding lookedTo
 ended-after s from end writes e =
     let l : (from + 4 ≤ end) × (end ≤ from + 4 * length (words (drop from s))) =
-    looked (words (drop from s)) from (header Other) 0 0 (Ended end writes) e (λ q. let z : _≡_ {A = ℕ} 0 1 = cc in omega arith) in
+    looked (words (drop from s)) from (header other) 0 0 (Ended end writes) e (λ q. let z : _≡_ {A = ℕ} 0 1 = cc in omega arith) in
     let r = room s from in omega arith

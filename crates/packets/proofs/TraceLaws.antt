@@ -4,9 +4,7 @@ use mathlib.Core.Path.{_≡_, refl}
 use mathlib.Core.Option.{some, none}
 use mathlib.Core.List.{List, [], _∷_}
 use Rattle.packets.specs.Packet.{headOf, effectOf}
-use Rattle.packets.specs.Reading.{Mode, header, payload, modeOf, afterHeader, Trace, wrote, ended, jumps, faulty, short, trace}
-use Rattle.packets.specs.declared.header.Before.{Before}
-use Rattle.packets.specs.declared.header.Before.the-variants.{Other}
+use Rattle.packets.specs.Reading.{Before, other, Mode, header, payload, modeOf, afterHeader, Trace, wrote, ended, jumps, faulty, short, trace}
 use Rattle.packets.specs.declared.header.Effect.the-variants.{GoesOn, Desync, Iprog}
 
 pub trace-none : (p : ℕ) (m : Mode) → trace [] p m ≡ short
@@ -24,7 +22,7 @@ module _ (word : ℕ) (ws : List ℕ) (p : ℕ) (before : Before) where
 
 module _ (word : ℕ) (ws : List ℕ) (p register left : ℕ) where
   pub trace-data : effectOf register word ≡ GoesOn →
-      trace (word ∷ ws) p (payload register left) ≡ wrote (record { register = register; word = word; place = p }) left (trace ws (p + 4) (modeOf left register Other))
+      trace (word ∷ ws) p (payload register left) ≡ wrote (record { register = register; word = word; place = p }) left (trace ws (p + 4) (modeOf left register other))
   unfolding trace
   trace-data e = rw (e, trace)
 

@@ -12,11 +12,9 @@ use lib.ListN.{length, getD, drop, length-drop}
 use lib.Seq.{drop-length}
 use Rattle.packets.specs.Framing.{words, wordAt}
 use Rattle.packets.specs.Packet.{ask, headOf, effectOf, CMD, WBSTAR}
-use Rattle.packets.specs.Reading.{Mode, header, payload, modeOf, afterHeader, Trace, wrote, ended, jumps, faulty, short, trace, lastWbstar, target, finish, listOf, traceFrom, finishFrom, writesFrom, nthWrite}
-use Rattle.packets.specs.Walk.{walked, going, comes, walkOf, startOf, onward, stoppedAt, reachedAt, passed, endingOf, HeldBy, Held, leftBy, Stepped, Inside}
+use Rattle.packets.specs.Reading.{Before, other, Mode, header, payload, modeOf, afterHeader, Trace, wrote, ended, jumps, faulty, short, trace, lastWbstar, target, finish, listOf, traceFrom, finishFrom, writesFrom, nthWrite}
+use Rattle.packets.specs.Walk.{walked, beforeOf, going, comes, walkOf, startOf, onward, stoppedAt, reachedAt, passed, endingOf, HeldBy, Held, leftBy, Stepped, Inside}
 use Rattle.packets.specs.declared.header.Header.{Header}
-use Rattle.packets.specs.declared.header.Before.{Before}
-use Rattle.packets.specs.declared.header.Before.the-variants.{Other}
 use Rattle.packets.specs.declared.header.Effect.{Effect}
 use Rattle.packets.specs.declared.header.Effect.the-variants.{GoesOn, Desync, Iprog as Jumps}
 use Rattle.packets.specs.declared.walk.Finish.{Finish}
@@ -39,7 +37,7 @@ unfolding comes
 on-going s w e = rw e refl
 
 module _ (s : List ℕ) (w : Walk) (status : w .status ≡ Going) (none-left : w .left ≡ 0) (behind : w .writes ≤ w .at) where
-  at-header : walked (trace (words (drop (w .at) s)) (w .at) (header (w .before))) (w .skip) (w .writes) (w .wbstar) ≡ walkOf s w
+  at-header : walked (trace (words (drop (w .at) s)) (w .at) (header (beforeOf (w .opened) (w .register)))) (w .skip) (w .writes) (w .wbstar) ≡ walkOf s w
   unfolding going modeOf
   at-header = sym (rw none-left refl) ∙ on-going s w status
 
@@ -47,17 +45,17 @@ module _ (s : List ℕ) (w : Walk) (status : w .status ≡ Going) (none-left : w
   unfolding walked trace comes HeldBy leftBy
   header-short h = record { same = rw (words-none (words (drop (w .at) s)) h) at at-header; held = tt; nearer = omega arith }
 
-  pub header-on : 0 < length (words (drop (w .at) s)) → (register left : ℕ) (before : Before) →
-      afterHeader (headOf (wordAt s (w .at))) (w .before) ≡ some (modeOf left register before) → Stepped s w (onward w register left before)
+  pub header-on : 0 < length (words (drop (w .at) s)) → (register left : ℕ) (opens : Bool) →
+      afterHeader (headOf (wordAt s (w .at))) (beforeOf (w .opened) (w .register)) ≡ some (modeOf left register (beforeOf opens register)) → Stepped s w (onward w register left opens)
   unfolding going comes HeldBy leftBy
-  header-on h register left before e = record {
+  header-on h register left opens e = record {
     same = ap (λ (t : Trace). walked t (w .skip) (w .writes) (w .wbstar)) (sym (trace-header _ _ _ _ _ e)) ∙ (rw (words-cons s (w .at) h) at at-header);
     held = omega arith;
     nearer = let r = room s (w .at) in omega arith;
   }
 
   pub header-fault : 0 < length (words (drop (w .at) s)) →
-      afterHeader (headOf (wordAt s (w .at))) (w .before) ≡ none → Stepped s w (stoppedAt w (w .at) 0 AtFault)
+      afterHeader (headOf (wordAt s (w .at))) (beforeOf (w .opened) (w .register)) ≡ none → Stepped s w (stoppedAt w (w .at) 0 AtFault)
   unfolding walked comes HeldBy leftBy
   header-fault h e = record {
     same = ap (λ (t : Trace). walked t (w .skip) (w .writes) (w .wbstar)) (sym (trace-fault _ _ _ _ e)) ∙ (rw (words-cons s (w .at) h) at at-header);
@@ -94,8 +92,8 @@ kept-none false ws (suc n) wbstar e = refl
 
 -- a data word passed
 one-data : (word : ℕ) (ws : List ℕ) (left register p skip writes wbstar : ℕ) → effectOf register word ≡ GoesOn →
-    walked (trace (word ∷ ws) p (modeOf (suc left) register Other)) (suc skip) writes wbstar
-    ≡ walked (trace ws (p + 4) (modeOf left register Other)) skip (writes + 1) (lastWbstar (record { register = register; word = word; place = p }) wbstar)
+    walked (trace (word ∷ ws) p (modeOf (suc left) register other)) (suc skip) writes wbstar
+    ≡ walked (trace ws (p + 4) (modeOf left register other)) skip (writes + 1) (lastWbstar (record { register = register; word = word; place = p }) wbstar)
 unfolding walked modeOf
 one-data word ws left register p skip writes wbstar e =
     ap (λ (t : Trace). walked t (suc skip) writes wbstar) (trace-data word ws p register left e)
@@ -103,8 +101,8 @@ one-data word ws left register p skip writes wbstar e =
 -- k data words are k steps
 advance : (j : ℕ) (ws : List ℕ) (n register p skip writes wbstar : ℕ) → j ≤ n → j ≤ length ws → j ≤ skip →
     ((i : ℕ) → i < j → effectOf register (getD ws i 0) ≡ GoesOn) →
-    walked (trace ws p (modeOf n register Other)) skip writes wbstar
-    ≡ walked (trace (drop j ws) (p + 4 * j) (modeOf (n - j) register Other)) (skip - j) (writes + j) (kept (eqb register WBSTAR) ws j wbstar)
+    walked (trace ws p (modeOf n register other)) skip writes wbstar
+    ≡ walked (trace (drop j ws) (p + 4 * j) (modeOf (n - j) register other)) (skip - j) (writes + j) (kept (eqb register WBSTAR) ws j wbstar)
 unfolding kept
 advance zero ws n register p skip writes wbstar a b d q = simp (add-zero, sub-zero)
 advance (suc j) [] n register p skip writes wbstar a b d q = absurd (omega arith)
@@ -137,10 +135,10 @@ brought place writes wbstar Jumps = Iprog place (target wbstar)
 end-data : (word : ℕ) (ws : List ℕ) (p register left skip writes wbstar : ℕ) (e : Effect) → effectOf register word ≡ e → (e ≡ GoesOn → ⊥) → eqb register WBSTAR ≡ false →
     walked (trace (word ∷ ws) p (payload register left)) (suc skip) writes wbstar ≡ Finished (brought p writes wbstar e)
 unfolding walked brought
-end-data word ws p register left skip writes wbstar GoesOn f h other = absurd (h refl)
-end-data word ws p register left skip writes wbstar Desync f h other = rw (trace-desync word ws p register left f) refl
-end-data word ws p register left skip writes wbstar Jumps f h other =
-    rw (trace-iprog word ws p register left f) (ap (λ (x : ℕ). Finished (Iprog p (target x))) (lone other))
+end-data word ws p register left skip writes wbstar GoesOn f h lone-register = absurd (h refl)
+end-data word ws p register left skip writes wbstar Desync f h lone-register = rw (trace-desync word ws p register left f) refl
+end-data word ws p register left skip writes wbstar Jumps f h lone-register =
+    rw (trace-iprog word ws p register left f) (ap (λ (x : ℕ). Finished (Iprog p (target x))) (lone lone-register))
   where
     lone : eqb register WBSTAR ≡ false → lastWbstar (record { register = register; word = word; place = p }) wbstar ≡ wbstar
     lone e = rw (e, lastWbstar)
@@ -151,7 +149,7 @@ ending-stepped s w run GoesOn q = record { same = q; held = tt; nearer = omega a
 ending-stepped s w run Desync q = record { same = q; held = tt; nearer = omega arith }
 ending-stepped s w run Jumps q = record { same = q; held = tt; nearer = omega arith }
 
-some-mode : (n register : ℕ) (before : Before) → 1 ≤ n → modeOf n register before ≡ modeOf n register Other
+some-mode : (n register : ℕ) (before : Before) → 1 ≤ n → modeOf n register before ≡ modeOf n register other
 unfolding modeOf
 some-mode zero register before h = absurd (omega arith)
 some-mode (suc n) register before h = refl
@@ -166,11 +164,11 @@ module _ (s : List ℕ) (w : Walk) (status : w .status ≡ Going) (some-left : 1
   -- inside a packet, after j of its words that let the reading go on
   in-packet : (j : ℕ) → j ≤ w .left → j ≤ length (words (drop (w .at) s)) → j ≤ w .skip →
       ((i : ℕ) → i < j → effectOf (w .register) (getD (words (drop (w .at) s)) i 0) ≡ GoesOn) →
-      walkOf s w ≡ walked (trace (words (drop (w .at + 4 * j) s)) (w .at + 4 * j) (modeOf (w .left - j) (w .register) Other)) (w .skip - j) (w .writes + j) (kept (eqb (w .register) WBSTAR) (words (drop (w .at) s)) j (w .wbstar))
+      walkOf s w ≡ walked (trace (words (drop (w .at + 4 * j) s)) (w .at + 4 * j) (modeOf (w .left - j) (w .register) other)) (w .skip - j) (w .writes + j) (kept (eqb (w .register) WBSTAR) (words (drop (w .at) s)) j (w .wbstar))
   unfolding going
   in-packet j a b d q =
       sym (on-going s w status)
-      ∙ ap (λ (m : Mode). walked (trace (words (drop (w .at) s)) (w .at) m) (w .skip) (w .writes) (w .wbstar)) (some-mode (w .left) (w .register) (w .before) some-left)
+      ∙ ap (λ (m : Mode). walked (trace (words (drop (w .at) s)) (w .at) m) (w .skip) (w .writes) (w .wbstar)) (some-mode (w .left) (w .register) (beforeOf (w .opened) (w .register)) some-left)
       ∙ advance j (words (drop (w .at) s)) (w .left) (w .register) (w .at) (w .skip) (w .writes) (w .wbstar) a b d q
       ∙ rw (words-on s (w .at) j) refl
 
@@ -189,7 +187,7 @@ module _ (s : List ℕ) (w : Walk) (status : w .status ≡ Going) (some-left : 1
   pub data-past : w .left ≤ length (words (drop (w .at) s)) → w .left ≤ w .skip →
       ((i : ℕ) → i < w .left → effectOf (w .register) (getD (words (drop (w .at) s)) i 0) ≡ GoesOn) →
       Stepped s w (passed s w)
-  unfolding going modeOf comes HeldBy leftBy
+  unfolding going modeOf beforeOf comes HeldBy leftBy
   data-past a b q = record {
     same = sym (in-packet (w .left) (omega arith) a b q ∙ rw (sub-self (w .left), kept-all (eqb (w .register) WBSTAR) (words (drop (w .at) s)) (w .left) (w .wbstar) some-left) refl);
     held = omega arith;
@@ -217,11 +215,11 @@ module _ (s : List ℕ) (w : Walk) (status : w .status ≡ Going) (some-left : 1
   data-end run a b d q e =
       let l : w .left - run ≡ suc (w .left - run - 1) = omega arith in
       let k : w .skip - run ≡ suc (w .skip - run - 1) = omega arith in
-      let other : eqb (w .register) WBSTAR ≡ false = not-wbstar (w .register) _ e in
+      let lone-register : eqb (w .register) WBSTAR ≡ false = not-wbstar (w .register) _ e in
       ending-stepped s w run _
       (sym (in-packet run (omega arith) (omega arith) (omega arith) q
-      ∙ rw (l, k, words-at s (w .at) run b, kept-none _ (words (drop (w .at) s)) run (w .wbstar) other)
-      (end-data _ _ (w .at + 4 * run) (w .register) _ _ (w .writes + run) (w .wbstar) _ refl e other)))
+      ∙ rw (l, k, words-at s (w .at) run b, kept-none _ (words (drop (w .at) s)) run (w .wbstar) lone-register)
+      (end-data _ _ (w .at + 4 * run) (w .register) _ _ (w .writes + run) (w .wbstar) _ refl e lone-register)))
 
 -- A write that is reached lies whole within the bytes.
 
@@ -236,9 +234,9 @@ inside-at (x ∷ ws) p (header before) skip writes wbstar most h =
     go (some m) e ih = rw (e, trace) (ih m)
 inside-at (x ∷ ws) p (payload register left) zero writes wbstar most h = let l : p + 4 * suc (length ws) ≤ most = h (omega arith) in omega arith
 inside-at (x ∷ ws) p (payload register left) (suc skip) writes wbstar most h =
-    go (effectOf register x) refl (inside-at ws (p + 4) (modeOf left register Other) skip (writes + 1) (lastWbstar (record { register = register; word = x; place = p }) wbstar) most (λ k. let l : p + 4 * suc (length ws) ≤ most = h (omega arith) in omega arith))
+    go (effectOf register x) refl (inside-at ws (p + 4) (modeOf left register other) skip (writes + 1) (lastWbstar (record { register = register; word = x; place = p }) wbstar) most (λ k. let l : p + 4 * suc (length ws) ≤ most = h (omega arith) in omega arith))
   where
-    go : (e : Effect) → effectOf register x ≡ e → Inside most (walked (trace ws (p + 4) (modeOf left register Other)) skip (writes + 1) (lastWbstar (record { register = register; word = x; place = p }) wbstar)) →
+    go : (e : Effect) → effectOf register x ≡ e → Inside most (walked (trace ws (p + 4) (modeOf left register other)) skip (writes + 1) (lastWbstar (record { register = register; word = x; place = p }) wbstar)) →
         Inside most (walked (trace (x ∷ ws) p (payload register left)) (suc skip) writes wbstar)
     go GoesOn f ih = rw (f, trace) ih
     go Desync f ih = rw (f, trace) tt
@@ -294,9 +292,9 @@ list-short (x ∷ ws) p (header before) = go (afterHeader (headOf x) before) ref
     go : (o : Option Mode) → afterHeader (headOf x) before ≡ o → ((m : Mode) → length (listOf (trace ws (p + 4) m)) ≤ length ws) → length (listOf (trace (x ∷ ws) p (header before))) ≤ suc (length ws)
     go none e ih = rw (e, trace) (omega arith)
     go (some m) e ih = rw (e, trace) (let h : length (listOf (trace ws (p + 4) m)) ≤ length ws = ih m in omega arith)
-list-short (x ∷ ws) p (payload register left) = go (effectOf register x) refl (list-short ws (p + 4) (modeOf left register Other))
+list-short (x ∷ ws) p (payload register left) = go (effectOf register x) refl (list-short ws (p + 4) (modeOf left register other))
   where
-    go : (e : Effect) → effectOf register x ≡ e → length (listOf (trace ws (p + 4) (modeOf left register Other))) ≤ length ws → length (listOf (trace (x ∷ ws) p (payload register left))) ≤ suc (length ws)
+    go : (e : Effect) → effectOf register x ≡ e → length (listOf (trace ws (p + 4) (modeOf left register other))) ≤ length ws → length (listOf (trace (x ∷ ws) p (payload register left))) ≤ suc (length ws)
     go GoesOn f ih = rw (f, trace) (omega arith)
     go Desync f ih = rw (f, trace) (omega arith)
     go Jumps f ih = rw (f, trace) (omega arith)
@@ -304,11 +302,11 @@ list-short (x ∷ ws) p (payload register left) = go (effectOf register x) refl 
 -- The walks that the calls make.
 
 pub finish-walk : (s : List ℕ) (from : ℕ) → walkOf s (startOf from (length s)) ≡ Finished (finishFrom s from)
-unfolding comes going modeOf
+unfolding comes going modeOf beforeOf
 finish-walk s from =
     walked-finish (traceFrom s from) (length s) 0 0
-    (let h : length (listOf (traceFrom s from)) ≤ length (words (drop from s)) = list-short (words (drop from s)) from (header Other) in omega (arith, room s from))
+    (let h : length (listOf (traceFrom s from)) ≤ length (words (drop from s)) = list-short (words (drop from s)) from (header other) in omega (arith, room s from))
 
 pub nth-walk : (s : List ℕ) (from i : ℕ) → cameTo (walkOf s (startOf from i)) ≡ nthWrite (writesFrom s from) i
-unfolding comes going modeOf
+unfolding comes going modeOf beforeOf
 nth-walk s from i = walked-nth (traceFrom s from) i 0 0

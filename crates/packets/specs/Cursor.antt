@@ -4,8 +4,7 @@ use mathlib.Core.List.{List, [], _∷_}
 use lib.ListN.{drop, take}
 use Rattle.packets.specs.Framing.{words}
 use Rattle.packets.specs.Packet.{effectOf}
-use Rattle.packets.specs.Reading.{Trace, wrote, ended, jumps, faulty, short, trace, modeOf, listOf}
-use Rattle.packets.specs.declared.header.Before.the-variants.{Other}
+use Rattle.packets.specs.Reading.{other, Trace, wrote, ended, jumps, faulty, short, trace, modeOf, listOf}
 use Rattle.packets.specs.declared.header.Effect.the-variants.{GoesOn, Desync, Iprog}
 use Rattle.packets.specs.declared.writes.Write.{Write}
 use Rattle.packets.specs.declared.writes.Cursor.{Cursor}
@@ -18,7 +17,7 @@ cursorAt from writes = record { at = from; register = 0; left = 0; remaining = w
 
 -- the words from where a cursor is
 abbrev pub traceAt : List ℕ → Cursor → Trace
-traceAt bytes c = trace (words (drop (c .at) bytes)) (c .at) (modeOf (c .left) (c .register) Other)
+traceAt bytes c = trace (words (drop (c .at) bytes)) (c .at) (modeOf (c .left) (c .register) other)
 
 -- the writes that a cursor still has to give
 abbrev pub rest : List ℕ → Cursor → List Write

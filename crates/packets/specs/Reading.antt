@@ -10,8 +10,6 @@ use Rattle.packets.specs.Packet.{headOf, effectOf, WBSTAR}
 use Rattle.packets.specs.declared.framing.Found.the-variants.{At, Nothing as NoSync}
 use Rattle.packets.specs.declared.header.Header.{Header}
 use Rattle.packets.specs.declared.header.Header.the-variants.{Nop, Type1, Type2, Fault as BadHeader}
-use Rattle.packets.specs.declared.header.Before.{Before}
-use Rattle.packets.specs.declared.header.Before.the-variants.{Opened, Other}
 use Rattle.packets.specs.declared.header.Effect.the-variants.{GoesOn, Desync, Iprog as Jumps}
 use Rattle.packets.specs.declared.walk.Finish.{Finish}
 use Rattle.packets.specs.declared.walk.Finish.the-variants.{Ended, Iprog, Fault, Short}
@@ -20,6 +18,11 @@ use Rattle.packets.specs.declared.reader.Outcome.the-variants.{Loaded, I
 use Rattle.packets.specs.declared.writes.Write.{Write}
 use Rattle.packets.specs.declared.writes.WriteAnswer.{WriteAnswer}
 use Rattle.packets.specs.declared.writes.WriteAnswer.the-variants.{Found, Nothing}
+
+-- What the word just before a header allows: a type 1 write header of count 0 opens its register to a type 2 header, every other word opens none.
+pub data Before : Type 0 where
+  opened : ℕ → Before
+  other : Before
 
 -- What the next word is: a header, with what the word just before it allows, or a data word for the register, with so many more after it.
 pub data Mode : Type 0 where
@@ -33,10 +36,10 @@ modeOf (suc more) register before = payload register more
 
 -- A type 2 header uses the register of the word just before it, which must be a type 1 write header of count 0.
 unfoldable pub afterHeader : Header → Before → Option Mode
-afterHeader Nop before = some (header Other)
-afterHeader (Type1 register count) before = some (modeOf count register (Opened register))
-afterHeader (Type2 count) (Opened register) = some (modeOf count register Other)
-afterHeader (Type2 count) Other = none
+afterHeader Nop before = some (header other)
+afterHeader (Type1 register count) before = some (modeOf count register (opened register))
+afterHeader (Type2 count) (opened register) = some (modeOf count register other)
+afterHeader (Type2 count) other = none
 afterHeader BadHeader before = none
 
 -- What reading words does: writes, each with the data words left in its packet, and then an end.
@@ -55,7 +58,7 @@ trace (word ∷ more) place (header before) =
 trace (word ∷ more) place (payload register left) =
     wrote (record { register = register; word = word; place = place }) left
     (elim (effectOf register word) [
-      | GoesOn ↦ trace more (place + 4) (modeOf left register Other)
+      | GoesOn ↦ trace more (place + 4) (modeOf left register other)
       | Desync ↦ ended (place + 4)
       | Jumps ↦ jumps place
     ])
@@ -86,7 +89,7 @@ listOf short = []
 
 -- the trace of the words from a place just after a sync; no WBSTAR was written, and no header stands before
 abbrev pub traceFrom : List ℕ → ℕ → Trace
-traceFrom bytes from = trace (words (drop from bytes)) from (header Other)
+traceFrom bytes from = trace (words (drop from bytes)) from (header other)
 
 abbrev pub finishFrom : List ℕ → ℕ → Finish
 finishFrom bytes from = finish (traceFrom bytes from) 0 0

@@ -1,15 +1,13 @@
 -- The reading of packets as the code walks it. Nothing here is part of what the public calls promise: the contracts of the private functions cite it.
 use Prim.Native.Nat.{ℕ, zero, suc, _+_, _-_, _*_, _≤_}
 use mathlib.Core.Path.{_≡_}
-use mathlib.Core.Bool.{true, false}
+use mathlib.Core.Bool.{Bool, true, false}
 use mathlib.Core.List.{List}
 use lib.ListN.{length, getD, drop}
 use lib.Dec.{eqb}
 use Rattle.packets.specs.Framing.{words, wordAt}
 use Rattle.packets.specs.Packet.{WBSTAR}
-use Rattle.packets.specs.Reading.{Trace, wrote, ended, jumps, faulty, short, trace, modeOf, lastWbstar, target}
-use Rattle.packets.specs.declared.header.Before.{Before}
-use Rattle.packets.specs.declared.header.Before.the-variants.{Other}
+use Rattle.packets.specs.Reading.{Before, opened, other, Trace, wrote, ended, jumps, faulty, short, trace, modeOf, lastWbstar, target}
 use Rattle.packets.specs.declared.header.Effect.{Effect}
 use Rattle.packets.specs.declared.header.Effect.the-variants.{GoesOn, Desync, Iprog as Jumps}
 use Rattle.packets.specs.declared.writes.Write.{Write}
@@ -30,10 +28,15 @@ walked (jumps place) skip writes wbstar = Finished (Iprog place (target wbstar))
 walked (faulty place) skip writes wbstar = Finished (Fault place)
 walked short skip writes wbstar = Finished Short
 
+-- what the word just before allows
+unfoldable pub beforeOf : Bool → ℕ → Before
+beforeOf true register = opened register
+beforeOf false register = other
+
 -- a walk that goes on, from where it is
 unfoldable pub going : List ℕ → Walk → Walked
 going s w =
-    walked (trace (words (drop (w .at) s)) (w .at) (modeOf (w .left) (w .register) (w .before))) (w .skip) (w .writes) (w .wbstar)
+    walked (trace (words (drop (w .at) s)) (w .at) (modeOf (w .left) (w .register) (beforeOf (w .opened) (w .register)))) (w .skip) (w .writes) (w .wbstar)
 
 -- what a walk comes to, by its status
 unfoldable pub comes : Status → List ℕ → Walk → Walked
@@ -75,14 +78,14 @@ pub record Stepped (s : List ℕ) (w r : Walk) : Type 0 where
   pub nearer : leftBy (r .status) (length s) (r .at) ≤ length s - w .at
 
 abbrev pub startOf : ℕ → ℕ → Walk
-startOf from skip = record { at = from; register = 0; left = 0; before = Other; skip = skip; writes = 0; wbstar = 0; status = Going }
+startOf from skip = record { at = from; register = 0; left = 0; opened = false; skip = skip; writes = 0; wbstar = 0; status = Going }
 
-abbrev pub onward : Walk → ℕ → ℕ → Before → Walk
-onward w register left before = record {
+abbrev pub onward : Walk → ℕ → ℕ → Bool → Walk
+onward w register left opens = record {
   at = w .at + 4;
   register = register;
   left = left;
-  before = before;
+  opened = opens;
   skip = w .skip;
   writes = w .writes;
   wbstar = w .wbstar;
@@ -94,7 +97,7 @@ stoppedAt w at writes status = record {
   at = at;
   register = w .register;
   left = w .left;
-  before = Other;
+  opened = false;
   skip = w .skip;
   writes = writes;
   wbstar = w .wbstar;
@@ -106,7 +109,7 @@ reachedAt w run = record {
   at = w .at + 4 * run;
   register = w .register;
   left = w .left - 1 - run;
-  before = Other;
+  opened = false;
   skip = 0;
   writes = 0;
   wbstar = 0;
@@ -118,7 +121,7 @@ passed s w = record {
   at = w .at + 4 * w .left;
   register = 0;
   left = 0;
-  before = Other;
+  opened = false;
   skip = w .skip - w .left;
   writes = w .writes + w .left;
   wbstar = elim (eqb (w .register) WBSTAR) [ true ↦ getD (words (drop (w .at) s)) (w .left - 1) 0 | false ↦ w .wbstar ];

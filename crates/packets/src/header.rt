@@ -18,13 +18,6 @@ pub(crate) enum Header {
     Fault,
 }
 
-// What the word just before a header allows: a type 1 write header of count 0 opens its register to
-// a type 2 header, every other word opens none.
-pub(crate) enum Before {
-    Opened(u32),
-    Other,
-}
-
 // What a data word does to the reading.
 pub(crate) enum Effect {
     GoesOn,

@@ -11,7 +11,6 @@ ghost use Rattle.packets.specs.Reading.{finishFrom};
 ghost use Rattle.packets.specs.Walk.{walkOf, startOf, onward, stoppedAt, endingOf, reachedAt, passed, Held, Stepped, Inside};
 use crate::framing::word_at;
 use crate::framing::words_from;
-use crate::header::Before;
 use crate::header::CMD;
 use crate::header::Effect;
 use crate::header::Header;
@@ -49,15 +48,15 @@ pub(crate) enum Status {
     Short,
 }
 
-// Where a walk is: the next word's place; the packet's register and the data words left in it; with
-// none left, what the word just before allows; the writes to pass before the wanted one; the writes
-// passed; the last WBSTAR word. It is a plain record, not an enum of records, so that it can stay
-// in registers from step to step.
+// Where a walk is: the next word's place; the packet's register and the data words left in it;
+// whether the word just before opened that register to a type 2 header; the writes to pass before
+// the wanted one; the writes passed; the last WBSTAR word. It is a plain record, not an enum of
+// records, so that it can stay in registers from step to step.
 pub(crate) struct Walk {
     pub(crate) at: usize,
     pub(crate) register: u32,
     pub(crate) left: usize,
-    pub(crate) before: Before,
+    pub(crate) opened: bool,
     pub(crate) skip: usize,
     pub(crate) writes: usize,
     pub(crate) wbstar: u32,
@@ -92,15 +91,15 @@ fn quiet(s: &[u8], at: usize, register: u32, most: usize) -> usize
 }
 
 // The walk after a header at its place, with `left` data words for `register` to come.
-fn after_header(w: Walk, register: u32, left: usize, before: Before) -> Walk
+fn after_header(w: Walk, register: u32, left: usize, opened: bool) -> Walk
     requires { ⌜ w .at + 4 < 18446744073709551616 ⌝ }
-    ensures { λ r. ⌜ r ≡ onward w register left before ⌝ }
+    ensures { λ r. ⌜ r ≡ onward w register left opened ⌝ }
 {
     Walk {
         at: w.at + 4,
         register,
         left,
-        before,
+        opened,
         skip: w.skip,
         writes: w.writes,
         wbstar: w.wbstar,
@@ -116,7 +115,7 @@ fn stopped(w: Walk, at: usize, writes: usize, status: Status) -> Walk
         at,
         register: w.register,
         left: w.left,
-        before: Before::Other,
+        opened: false,
         skip: w.skip,
         writes,
         wbstar: w.wbstar,
@@ -132,18 +131,15 @@ fn header_step(s: &[u8], w: Walk) -> Walk
     if words_from(s, at) == 0 {
         return stopped(w, at, 0, Status::Short);
     }
-    let before = w.before;
     let header = header_of(word_at(s, at));
     match header {
-        Header::Nop => after_header(w, 0, 0, Before::Other),
-        Header::Type1 { register, count } => {
-            after_header(w, register, count as usize, Before::Opened(register))
-        }
+        Header::Nop => after_header(w, 0, 0, false),
+        Header::Type1 { register, count } => after_header(w, register, count as usize, true),
         Header::Type2 { count } => {
-            let Before::Opened(register) = before else {
+            if !w.opened {
                 return stopped(w, at, 0, Status::Fault);
-            };
-            after_header(w, register, count as usize, Before::Other)
+            }
+            after_header(w, w.register, count as usize, false)
         }
         Header::Fault => stopped(w, at, 0, Status::Fault),
     }
@@ -172,7 +168,7 @@ fn reached(w: Walk, run: usize) -> Walk
         at: w.at + 4 * run,
         register: w.register,
         left: w.left - 1 - run,
-        before: Before::Other,
+        opened: false,
         skip: 0,
         writes: 0,
         wbstar: 0,
@@ -195,7 +191,7 @@ fn after_packet(s: &[u8], w: Walk) -> Walk
         at,
         register: 0,
         left: 0,
-        before: Before::Other,
+        opened: false,
         skip: w.skip - w.left,
         writes: w.writes + w.left,
         wbstar,
@@ -293,7 +289,7 @@ pub(crate) fn from_sync(from: usize, skip: usize) -> Walk
         at: from,
         register: 0,
         left: 0,
-        before: Before::Other,
+        opened: false,
         skip,
         writes: 0,
         wbstar: 0,

@@ -4,7 +4,6 @@ ghost use Prim.Native.Nat.{_+_, _≤_, _<_};
 ghost use lib.ListN.{length};
 ghost use Rattle.packets.specs.Reading.{nthWrite, writesFrom};
 ghost use Rattle.packets.specs.Cursor.{cursorAt, rest, stepOf, told, afterWrite};
-use crate::header::Before;
 use crate::header::Effect;
 use crate::header::effect_of;
 use crate::walk::Status;
@@ -75,7 +74,7 @@ impl Cursor {
                 at: self.at,
                 register: self.register,
                 left: self.left,
-                before: Before::Other,
+                opened: false,
                 skip: 0,
                 writes: 0,
                 wbstar: 0,

@@ -2,10 +2,12 @@
 use Prim.Native.Nat.{_+_, _<_, _≤_}
 use mathlib.Core.Path.{_≡_, refl, sym, ap, _∙_}
 use native.Mathlib.Omega.{arith}
+use borrow.Author.Tests.{not-true, not-false}
 use lib.ListN.{length, drop}
 use Rattle.packets.specs.Framing.{words, wordAt}
 use Rattle.packets.specs.Packet.{headOf}
 use Rattle.packets.specs.Reading.{afterHeader, modeOf}
+use Rattle.packets.specs.Walk.{beforeOf}
 use Rattle.packets.proofs.FramingLaws.{room}
 use Rattle.packets.proofs.WalkLaws.{header-short, header-on, header-fault}
 use borrow.Author.Needs.{needs}
@@ -55,46 +57,40 @@ after-header-requires-2 c κs = let l = fits (c .before .before .before .before)
 enum-known-header-2 : tie.Need-enum-known-header-2
 enum-known-header-2 c = search needs
 
-enum-known-before : tie.Need-enum-known-before
-enum-known-before c = search needs
-
-enum-told-2 : tie.Need-enum-told-2
-enum-told-2 c = search needs
-
 stopped-requires-2 : tie.Need-stopped-requires-2
 stopped-requires-2 c κs = search needs
 
 returns-2 : tie.Need-returns-2
-unfolding afterHeader
-returns-2 c = rw (c .stopped2 .ensures) (header-fault (c .before .before .before .before .before .before .before .before .before .before .before .args .s .now) (c .before .before .before .before .before .before .before .before .before .before .before .args .w) (c .before .before .before .before .before .before .before .before .before .before .before .pre .0) (c .before .before .before .before .before .before .before .before .before .before .before .pre .1) (c .before .before .before .before .before .before .before .before .before .before .before .pre .2) (word-there (c .before .before .before .before .before .before .before)) (rw (head-is (c .before .before .before .before .before .before) ∙ c .before .before .before .before .header2 .given .1, c .before .enum-told2 .given .1) refl))
+unfolding afterHeader modeOf beforeOf
+returns-2 c = rw (c .stopped2 .ensures) (header-fault (c .before .before .before .before .before .before .before .before .before .before .before .args .s .now) (c .before .before .before .before .before .before .before .before .before .before .before .args .w) (c .before .before .before .before .before .before .before .before .before .before .before .pre .0) (c .before .before .before .before .before .before .before .before .before .before .before .pre .1) (c .before .before .before .before .before .before .before .before .before .before .before .pre .2) (word-there (c .before .before .before .before .before .before .before)) (rw (head-is (c .before .before .before .before .before .before) ∙ c .before .before .before .before .header2 .given .1, not-true (c .before .before .before .before .before .before .before .before .before .before .before .args .w .opened) (c .before .if2 .taken)) refl))
 
 cast-after-header-2 : tie.Need-cast-after-header-2
 cast-after-header-2 c = search needs
 
 after-header-requires-3 : tie.Need-after-header-requires-3
-after-header-requires-3 c κs = let l = fits (c .before .before .before .before .before .before .before) in omega (arith, c .before .before .before .before .before .before .before .before .before .before .before .good)
+after-header-requires-3 c κs = let l = fits (c .before .before .before .before .before .before) in omega (arith, c .before .before .before .before .before .before .before .before .before .before .good)
 
-enum-told-3 : tie.Need-enum-told-3
-enum-told-3 c = search needs
+enum-told-2 : tie.Need-enum-told-2
+enum-told-2 c = search needs
 
 stopped-requires-3 : tie.Need-stopped-requires-3
 stopped-requires-3 c κs = search needs
 
 returns-3 : tie.Need-returns-3
-unfolding afterHeader modeOf
+unfolding afterHeader modeOf beforeOf
 returns-3 c = rw (c .after-header .ensures) (header-on (c .before .before .before .before .before .before .before .before .args .s .now) (c .before .before .before .before .before .before .before .before .args .w) (c .before .before .before .before .before .before .before .before .pre .0) (c .before .before .before .before .before .before .before .before .pre .1) (c .before .before .before .before .before .before .before .before .pre .2) (word-there (c .before .before .before .before)) _ _ _ (rw (head-is (c .before .before .before) ∙ c .before .enum-told .given .1) refl))
 
 returns-4 : tie.Need-returns-4
-unfolding afterHeader modeOf
+unfolding afterHeader modeOf beforeOf
 returns-4 c = rw (c .after-header2 .ensures) (header-on (c .before .before .before .before .before .before .before .before .before .args .s .now) (c .before .before .before .before .before .before .before .before .before .args .w) (c .before .before .before .before .before .before .before .before .before .pre .0) (c .before .before .before .before .before .before .before .before .before .pre .1) (c .before .before .before .before .before .before .before .before .before .pre .2) (word-there (c .before .before .before .before .before)) _ _ _ (rw (head-is (c .before .before .before .before) ∙ c .before .before .header .given .1) refl))
 
 returns-5 : tie.Need-returns-5
-unfolding afterHeader modeOf
-returns-5 c = rw (c .after-header3 .ensures) (header-on (c .before .before .before .before .before .before .before .before .before .before .before .before .args .s .now) (c .before .before .before .before .before .before .before .before .before .before .before .before .args .w) (c .before .before .before .before .before .before .before .before .before .before .before .before .pre .0) (c .before .before .before .before .before .before .before .before .before .before .before .before .pre .1) (c .before .before .before .before .before .before .before .before .before .before .before .before .pre .2) (word-there (c .before .before .before .before .before .before .before .before)) _ _ _ (rw (head-is (c .before .before .before .before .before .before .before) ∙ c .before .before .before .before .before .header2 .given .1, c .before .before .before2 .given .1) refl))
+unfolding afterHeader modeOf beforeOf
+returns-5 c = rw (c .after-header3 .ensures) (header-on (c .before .before .before .before .before .before .before .before .before .before .before .args .s .now) (c .before .before .before .before .before .before .before .before .before .before .before .args .w) (c .before .before .before .before .before .before .before .before .before .before .before .pre .0) (c .before .before .before .before .before .before .before .before .before .before .before .pre .1) (c .before .before .before .before .before .before .before .before .before .before .before .pre .2) (word-there (c .before .before .before .before .before .before .before)) _ _ _ (rw (head-is (c .before .before .before .before .before .before) ∙ c .before .before .before .before .header2 .given .1, not-false (c .before .before .before .before .before .before .before .before .before .before .before .args .w .opened) (c .before .if2 .left)) refl))
 
 returns-6 : tie.Need-returns-6
-unfolding afterHeader
-returns-6 c = rw (c .stopped3 .ensures) (header-fault (c .before .before .before .before .before .before .before .before .args .s .now) (c .before .before .before .before .before .before .before .before .args .w) (c .before .before .before .before .before .before .before .before .pre .0) (c .before .before .before .before .before .before .before .before .pre .1) (c .before .before .before .before .before .before .before .before .pre .2) (word-there (c .before .before .before .before)) (rw (head-is (c .before .before .before) ∙ c .before .enum-told3 .given .1) refl))
+unfolding afterHeader modeOf beforeOf
+returns-6 c = rw (c .stopped3 .ensures) (header-fault (c .before .before .before .before .before .before .before .before .args .s .now) (c .before .before .before .before .before .before .before .before .args .w) (c .before .before .before .before .before .before .before .before .pre .0) (c .before .before .before .before .before .before .before .before .pre .1) (c .before .before .before .before .before .before .before .before .pre .2) (word-there (c .before .before .before .before)) (rw (head-is (c .before .before .before) ∙ c .before .enum-told2 .given .1) refl))
 
 pub header-step-spec : {M : Type 1} → statement M
 header-step-spec =
@@ -111,13 +107,11 @@ header-step-spec =
     cast-after-header
     after-header-requires-2
     enum-known-header-2
-    enum-known-before
-    enum-told-2
     stopped-requires-2
     returns-2
     cast-after-header-2
     after-header-requires-3
-    enum-told-3
+    enum-told-2
     stopped-requires-3
     returns-3
     returns-4

@@ -3,7 +3,7 @@ use Prim.Native.Nat.{ℕ, suc, _+_, _-_, _≤_}
 use mathlib.Core.Path.{_≡_, refl, sym, ap, _∙_}
 use native.Mathlib.Omega.{arith}
 use lib.ListN.{length}
-use Rattle.packets.specs.Walk.{comes, going, HeldBy, Inside}
+use Rattle.packets.specs.Walk.{beforeOf, comes, going, HeldBy, Inside}
 use Rattle.packets.specs.Cursor.{stepOf}
 use Rattle.packets.specs.declared.writes.CursorStep.the-variants.{Wrote}
 use Rattle.packets.proofs.CursorLaws.{stepWalked, step-walk, step-none, told-rest}
@@ -12,7 +12,7 @@ use Rattle.packets.proofs.writes.Cursor.step.Statement.{statement}
 use Rattle.packets.proofs.writes.Cursor.step.Tie as tie
 
 stepped : (c : tie.After-follow) → stepWalked (c .follow .result) (c .before .before .before .before .args .self .remaining - 1) ≡ stepOf (c .before .before .before .before .args .s .now) (c .before .before .before .before .args .self)
-unfolding comes going
+unfolding comes going beforeOf
 stepped c =
     let r : c .before .before .before .before .args .self .remaining ≡ suc (c .before .before .before .before .args .self .remaining - 1) = omega arith in
     ap (λ w. stepWalked w (c .before .before .before .before .args .self .remaining - 1)) (c .follow .ensures .0)
