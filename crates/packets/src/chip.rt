@@ -2,7 +2,7 @@
 ghost use mathlib.Core.Path.{_≡_};
 ghost use Rattle.packets.specs.Answers.{lengthAllowed, bootAnswer, chipWrite, chipListing};
 use crate::reader::Outcome;
-use crate::reader::search;
+use crate::reader::read_chip;
 use crate::writes::Cursor;
 use crate::writes::Listing;
 use crate::writes::WriteAnswer;
@@ -48,7 +48,7 @@ pub fn boot(chip: &[u8]) -> BootAnswer
             place: 0,
         };
     }
-    let outcome = search(chip, 0, 1, false);
+    let outcome = read_chip(chip);
     match outcome {
         Outcome::Loaded {
             sync,
@@ -76,7 +76,7 @@ pub fn write(chip: &[u8], i: usize) -> WriteAnswer
             place: 0,
         };
     }
-    let outcome = search(chip, 0, 1, false);
+    let outcome = read_chip(chip);
     let Outcome::Loaded {
         sync,
         end: _,
@@ -99,7 +99,7 @@ pub fn writes(chip: &[u8]) -> Listing
             place: 0,
         };
     }
-    let outcome = search(chip, 0, 1, false);
+    let outcome = read_chip(chip);
     let Outcome::Loaded {
         sync,
         end: _,

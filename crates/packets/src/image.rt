@@ -3,7 +3,7 @@
 ghost use mathlib.Core.Path.{_≡_};
 ghost use Rattle.packets.specs.Answers.{imageLength, longestImage, aloneCase, imageAnswer, imageWrite, imageListing};
 use crate::reader::Outcome;
-use crate::reader::search;
+use crate::reader::read_alone;
 use crate::writes::Cursor;
 use crate::writes::Listing;
 use crate::writes::WriteAnswer;
@@ -73,7 +73,7 @@ pub fn check(image: &[u8]) -> ImageAnswer
             place: 0,
         };
     }
-    let outcome = search(image, 0, 0, false);
+    let outcome = read_alone(image);
     let Outcome::Loaded {
         sync,
         end,

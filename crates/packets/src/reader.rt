@@ -3,7 +3,7 @@
 ghost use mathlib.Core.Path.{_≡_};
 ghost use Prim.Native.Nat.{_+_, _≤_};
 ghost use lib.ListN.{length};
-ghost use Rattle.packets.specs.Reading.{readFrom, readAt, jump};
+ghost use Rattle.packets.specs.Reading.{readFrom, readAt, jump, readChip, readAlone};
 use crate::framing::Found;
 use crate::framing::find_sync;
 use crate::walk::Finish;
@@ -28,7 +28,21 @@ pub(crate) enum Outcome {
     },
 }
 
-pub(crate) fn search(s: &[u8], from: usize, jumps: u32, jumped: bool) -> Outcome
+// A chip is read from byte 0, with one jump at most.
+pub(crate) fn read_chip(chip: &[u8]) -> Outcome
+    ensures { λ r. ⌜ r ≡ readChip (now (chip .entry)) ⌝ }
+{
+    search(chip, 0, 1, false)
+}
+
+// An image read alone has no jump.
+pub(crate) fn read_alone(image: &[u8]) -> Outcome
+    ensures { λ r. ⌜ r ≡ readAlone (now (image .entry)) ⌝ }
+{
+    search(image, 0, 0, false)
+}
+
+fn search(s: &[u8], from: usize, jumps: u32, jumped: bool) -> Outcome
     requires { ⌜ from ≤ length (now s) ⌝ }
     ensures { λ r. ⌜ r ≡ readFrom jumps jumped (now (s .entry)) from ⌝ }
 {

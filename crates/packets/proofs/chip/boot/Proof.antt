@@ -14,8 +14,8 @@ returns : tie.Need-returns
 unfolding bootAnswer ask
 returns c = rw (sym (c .before .length-allowed .ensures) ∙ not-true _ (c .if1 .taken)) refl
 
-search-requires : tie.Need-search-requires
-search-requires c κs = search needs
+read-chip-requires : tie.Need-read-chip-requires
+read-chip-requires c κs = search needs
 
 enum-known-outcome : tie.Need-enum-known-outcome
 enum-known-outcome c = search needs
@@ -28,15 +28,15 @@ enum-known-outcome-3 c = search needs
 
 returns-2 : tie.Need-returns-2
 unfolding bootAnswer ask bootCase
-returns-2 c = rw (sym (c .before .before .before .before .before .length-allowed .ensures) ∙ not-false _ (c .before .before .before .before .if1 .left), sym (c .before .before .before .search .ensures) ∙ c .before .outcome .given .1) refl
+returns-2 c = rw (sym (c .before .before .before .before .before .length-allowed .ensures) ∙ not-false _ (c .before .before .before .before .if1 .left), sym (c .before .before .before .read-chip .ensures) ∙ c .before .outcome .given .1) refl
 
 returns-3 : tie.Need-returns-3
 unfolding bootAnswer ask bootCase
-returns-3 c = rw (sym (c .before .before .before .before .before .length-allowed .ensures) ∙ not-false _ (c .before .before .before .before .if1 .left), sym (c .before .before .before .search .ensures) ∙ c .before .outcome2 .given .1) refl
+returns-3 c = rw (sym (c .before .before .before .before .before .length-allowed .ensures) ∙ not-false _ (c .before .before .before .before .if1 .left), sym (c .before .before .before .read-chip .ensures) ∙ c .before .outcome2 .given .1) refl
 
 returns-4 : tie.Need-returns-4
 unfolding bootAnswer ask bootCase
-returns-4 c = rw (sym (c .before .before .before .before .before .length-allowed .ensures) ∙ not-false _ (c .before .before .before .before .if1 .left), sym (c .before .before .before .search .ensures) ∙ c .before .outcome3 .given .1) refl
+returns-4 c = rw (sym (c .before .before .before .before .before .length-allowed .ensures) ∙ not-false _ (c .before .before .before .before .if1 .left), sym (c .before .before .before .read-chip .ensures) ∙ c .before .outcome3 .given .1) refl
 
 pub boot-spec : {M : Type 1} → statement M
 boot-spec =
@@ -44,7 +44,7 @@ boot-spec =
     (tie.spec
     length-allowed-requires
     returns
-    search-requires
+    read-chip-requires
     enum-known-outcome
     enum-known-outcome-2
     enum-known-outcome-3

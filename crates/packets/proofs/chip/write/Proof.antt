@@ -22,24 +22,24 @@ returns : tie.Need-returns
 unfolding chipWrite ask
 returns c = rw (sym (c .before .length-allowed .ensures) ∙ not-true _ (c .if1 .taken)) refl
 
-search-requires : tie.Need-search-requires
-search-requires c κs = search needs
+read-chip-requires : tie.Need-read-chip-requires
+read-chip-requires c κs = search needs
 
 enum-known-outcome : tie.Need-enum-known-outcome
 enum-known-outcome c = search needs
 
 returns-2 : tie.Need-returns-2
 unfolding chipWrite ask listed nthWrite
-returns-2 c = go (c .before .search .result) refl
+returns-2 c = go (c .before .read-chip .result) refl
   where
-    go : (o : Outcome) → c .before .search .result ≡ o → Nothing ≡ chipWrite (c .before .before .before .before .before .args .chip .now) (c .before .before .before .before .before .args .i)
+    go : (o : Outcome) → c .before .read-chip .result ≡ o → Nothing ≡ chipWrite (c .before .before .before .before .before .args .chip .now) (c .before .before .before .before .before .args .i)
     go (Loaded sync end writes jumped) e = absurd (⊎-elim (λ z. omega arith) (λ z. omega arith) (rw e at (c .match .keys2)))
-    go (Iprog place) e = rw (sym (c .before .before .before .length-allowed .ensures) ∙ not-false _ (c .before .before .if1 .left), sym (c .before .search .ensures) ∙ e) refl
-    go (Stuck place) e = rw (sym (c .before .before .before .length-allowed .ensures) ∙ not-false _ (c .before .before .if1 .left), sym (c .before .search .ensures) ∙ e) refl
+    go (Iprog place) e = rw (sym (c .before .before .before .length-allowed .ensures) ∙ not-false _ (c .before .before .if1 .left), sym (c .before .read-chip .ensures) ∙ e) refl
+    go (Stuck place) e = rw (sym (c .before .before .before .length-allowed .ensures) ∙ not-false _ (c .before .before .if1 .left), sym (c .before .read-chip .ensures) ∙ e) refl
 
 add-nth-from : tie.Need-add-nth-from
 unfolding Proper
-add-nth-from c = let p = rw (sym (c .before .before .before .search .ensures) ∙ c .before .outcome .given .1) at (proper 1 false (c .before .before .before .before .before .before .before .args .chip .now) 0 (omega arith)) in
+add-nth-from c = let p = rw (sym (c .before .before .before .read-chip .ensures) ∙ c .before .outcome .given .1) at (proper 1 false (c .before .before .before .before .before .before .before .args .chip .now) 0 (omega arith)) in
     omega (arith, c .before .before .before .before .before .before .before .good)
 
 nth-from-requires : tie.Need-nth-from-requires
@@ -47,7 +47,7 @@ nth-from-requires c κs = search needs
 
 returns-3 : tie.Need-returns-3
 unfolding chipWrite ask listed
-returns-3 c = rw (sym (c .before .before .before .before .before .before .length-allowed .ensures) ∙ not-false _ (c .before .before .before .before .before .if1 .left), sym (c .before .before .before .before .search .ensures) ∙ c .before .before .outcome .given .1) (c .nth-from .ensures)
+returns-3 c = rw (sym (c .before .before .before .before .before .before .length-allowed .ensures) ∙ not-false _ (c .before .before .before .before .before .if1 .left), sym (c .before .before .before .before .read-chip .ensures) ∙ c .before .before .outcome .given .1) (c .nth-from .ensures)
 
 pub write-spec : {M : Type 1} → statement M
 write-spec =
@@ -55,7 +55,7 @@ write-spec =
     (tie.spec
     length-allowed-requires
     returns
-    search-requires
+    read-chip-requires
     enum-known-outcome
     returns-2
     add-nth-from

@@ -21,8 +21,8 @@ returns : tie.Need-returns
 unfolding chipListing ask
 returns c = rw (sym (c .before .length-allowed .ensures) ∙ not-true _ (c .if1 .taken)) refl
 
-search-requires : tie.Need-search-requires
-search-requires c κs = search needs
+read-chip-requires : tie.Need-read-chip-requires
+read-chip-requires c κs = search needs
 
 enum-known-outcome : tie.Need-enum-known-outcome
 enum-known-outcome c = search needs
@@ -32,16 +32,16 @@ new-requires c κs = search needs
 
 returns-2 : tie.Need-returns-2
 unfolding chipListing ask cursorOf
-returns-2 c = go (c .before .before .search .result) refl
+returns-2 c = go (c .before .before .read-chip .result) refl
   where
-    go : (o : Outcome) → c .before .before .search .result ≡ o → Open (c .new .result) ≡ chipListing (c .before .before .before .before .before .before .args .chip .now)
+    go : (o : Outcome) → c .before .before .read-chip .result ≡ o → Open (c .new .result) ≡ chipListing (c .before .before .before .before .before .before .args .chip .now)
     go (Loaded sync end writes jumped) e = absurd (⊎-elim (λ z. omega arith) (λ z. omega arith) (rw e at (c .before .match .keys2)))
-    go (Iprog place) e = rw (sym (c .before .before .before .before .length-allowed .ensures) ∙ not-false _ (c .before .before .before .if1 .left), sym (c .before .before .search .ensures) ∙ e) (ap Open (c .new .ensures))
-    go (Stuck place) e = rw (sym (c .before .before .before .before .length-allowed .ensures) ∙ not-false _ (c .before .before .before .if1 .left), sym (c .before .before .search .ensures) ∙ e) (ap Open (c .new .ensures))
+    go (Iprog place) e = rw (sym (c .before .before .before .before .length-allowed .ensures) ∙ not-false _ (c .before .before .before .if1 .left), sym (c .before .before .read-chip .ensures) ∙ e) (ap Open (c .new .ensures))
+    go (Stuck place) e = rw (sym (c .before .before .before .before .length-allowed .ensures) ∙ not-false _ (c .before .before .before .if1 .left), sym (c .before .before .read-chip .ensures) ∙ e) (ap Open (c .new .ensures))
 
 add-new : tie.Need-add-new
 unfolding Proper
-add-new c = let p = rw (sym (c .before .before .before .search .ensures) ∙ c .before .outcome .given .1) at (proper 1 false (c .before .before .before .before .before .before .before .args .chip .now) 0 (omega arith)) in
+add-new c = let p = rw (sym (c .before .before .before .read-chip .ensures) ∙ c .before .outcome .given .1) at (proper 1 false (c .before .before .before .before .before .before .before .args .chip .now) 0 (omega arith)) in
     omega (arith, c .before .before .before .before .before .before .before .good)
 
 new-requires-2 : tie.Need-new-requires-2
@@ -49,7 +49,7 @@ new-requires-2 c κs = search needs
 
 returns-3 : tie.Need-returns-3
 unfolding chipListing ask cursorOf
-returns-3 c = rw (sym (c .before .before .before .before .before .before .length-allowed .ensures) ∙ not-false _ (c .before .before .before .before .before .if1 .left), sym (c .before .before .before .before .search .ensures) ∙ c .before .before .outcome .given .1) (ap Open (c .new2 .ensures))
+returns-3 c = rw (sym (c .before .before .before .before .before .before .length-allowed .ensures) ∙ not-false _ (c .before .before .before .before .before .if1 .left), sym (c .before .before .before .before .read-chip .ensures) ∙ c .before .before .outcome .given .1) (ap Open (c .new2 .ensures))
 
 pub writes-spec : {M : Type 1} → statement M
 writes-spec =
@@ -57,7 +57,7 @@ writes-spec =
     (tie.spec
     length-allowed-requires
     returns
-    search-requires
+    read-chip-requires
     enum-known-outcome
     new-requires
     returns-2

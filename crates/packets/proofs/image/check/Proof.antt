@@ -19,8 +19,8 @@ returns : tie.Need-returns
 unfolding imageAnswer ask
 returns c = rw (sym (c .before .length-allowed .ensures) ∙ not-true _ (c .if1 .taken)) refl
 
-search-requires : tie.Need-search-requires
-search-requires c κs = search needs
+read-alone-requires : tie.Need-read-alone-requires
+read-alone-requires c κs = search needs
 
 enum-known-outcome : tie.Need-enum-known-outcome
 enum-known-outcome c = search needs
@@ -33,16 +33,16 @@ place-of-requires c κs = search needs
 
 returns-2 : tie.Need-returns-2
 unfolding imageAnswer ask aloneCase
-returns-2 c = go (c .before .before .before .search .result) refl
+returns-2 c = go (c .before .before .before .read-alone .result) refl
   where
-    go : (o : Outcome) → c .before .before .before .search .result ≡ o → Refused (c .before .number-of .result) (c .place-of .result) ≡ imageAnswer (c .before .before .before .before .before .before .before .args .image .now)
+    go : (o : Outcome) → c .before .before .before .read-alone .result ≡ o → Refused (c .before .number-of .result) (c .place-of .result) ≡ imageAnswer (c .before .before .before .before .before .before .before .args .image .now)
     go (Loaded sync end writes jumped) e = absurd (⊎-elim (λ z. omega arith) (λ z. omega arith) (rw e at (c .before .before .match .keys2)))
-    go (Iprog place) e = rw (sym (c .before .before .before .before .before .length-allowed .ensures) ∙ not-false _ (c .before .before .before .before .if1 .left), sym (c .before .before .before .search .ensures) ∙ e) (ap₂ Refused (rw e at (c .before .number-of .ensures)) (rw e at (c .place-of .ensures)))
-    go (Stuck place) e = rw (sym (c .before .before .before .before .before .length-allowed .ensures) ∙ not-false _ (c .before .before .before .before .if1 .left), sym (c .before .before .before .search .ensures) ∙ e) (ap₂ Refused (rw e at (c .before .number-of .ensures)) (rw e at (c .place-of .ensures)))
+    go (Iprog place) e = rw (sym (c .before .before .before .before .before .length-allowed .ensures) ∙ not-false _ (c .before .before .before .before .if1 .left), sym (c .before .before .before .read-alone .ensures) ∙ e) (ap₂ Refused (rw e at (c .before .number-of .ensures)) (rw e at (c .place-of .ensures)))
+    go (Stuck place) e = rw (sym (c .before .before .before .before .before .length-allowed .ensures) ∙ not-false _ (c .before .before .before .before .if1 .left), sym (c .before .before .before .read-alone .ensures) ∙ e) (ap₂ Refused (rw e at (c .before .number-of .ensures)) (rw e at (c .place-of .ensures)))
 
 returns-3 : tie.Need-returns-3
 unfolding imageAnswer ask aloneCase
-returns-3 c = rw (sym (c .before .before .before .before .before .length-allowed .ensures) ∙ not-false _ (c .before .before .before .before .if1 .left), sym (c .before .before .before .search .ensures) ∙ c .before .outcome .given .1) refl
+returns-3 c = rw (sym (c .before .before .before .before .before .length-allowed .ensures) ∙ not-false _ (c .before .before .before .before .if1 .left), sym (c .before .before .before .read-alone .ensures) ∙ c .before .outcome .given .1) refl
 
 pub check-spec : {M : Type 1} → statement M
 check-spec =
@@ -50,7 +50,7 @@ check-spec =
     (tie.spec
     length-allowed-requires
     returns
-    search-requires
+    read-alone-requires
     enum-known-outcome
     number-of-requires
     place-of-requires

@@ -1,0 +1,21 @@
+-- Every row of the table holds.
+use mathlib.Core.Path.{_≡_, refl}
+use mathlib.Core.List.{_++_}
+use native.Mathlib.Omega.{arith}
+use borrow.Author.Tests.{le-leb}
+use lib.ListN.{length}
+use Rattle.packets.specs.Framing.{starts, find, words}
+use Rattle.packets.specs.Packet.{ask, registerOk, type1Of, type2Of, headOf, effectOf}
+use Rattle.packets.specs.Reading.{modeOf, afterHeader, trace, finish, readAt, searchFrom, jump}
+use Rattle.packets.specs.Answers.{imageLength, aloneCase, imageAnswer}
+use Rattle.cases.specs.Cases.{imageSays, All, jumping, rows}
+
+table : All rows
+unfolding All rows imageSays imageAnswer imageLength aloneCase ask readAt searchFrom jump find starts words trace finish afterHeader modeOf headOf type1Of type2Of registerOk effectOf
+table =
+    (λ rest h. refl,
+    (λ rest h. refl,
+    (λ rest h. rw (le-leb 1 (length (jumping ++ rest)) (omega arith), le-leb (length (jumping ++ rest)) 16777216 (omega arith)) refl,
+    (λ rest h. refl,
+    (λ rest h. refl,
+    tt)))))

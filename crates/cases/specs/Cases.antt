@@ -1,0 +1,58 @@
+-- Document 01's starred proof cases: the rows of one table, under one proposition.
+use Prim.Native.Nat.{ℕ, _≤_}
+use mathlib.Core.Path.{_≡_}
+use mathlib.Core.List.{List, [], _∷_, _++_}
+use lib.ListN.{length}
+use Rattle.packets.specs.Answers.{imageAnswer, longestImage}
+use Rattle.packets.specs.declared.image.ImageAnswer.{ImageAnswer}
+use Rattle.packets.specs.declared.image.ImageAnswer.the-variants.{Accepted, Refused}
+
+-- what the paper says of a case: what loads, or a refusal's number and place
+pub data Says : Type 0 where
+  loads : (sync end writes : ℕ) → Says
+  refuses : (number place : ℕ) → Says
+
+-- what a call answers, in the paper's values
+unfoldable pub imageSays : ImageAnswer → Says
+imageSays (Accepted sync end writes) = loads sync end writes
+imageSays (Refused number place) = refuses number place
+
+-- a case: the call, on any bytes that follow where the paper says "and more", and what the paper says of it
+pub record Row : Type 0 where
+  pub asks : List ℕ → Says
+  pub room : ℕ
+  pub says : Says
+
+-- THE PROPOSITION of every row: whatever follows, in the room there is, the definition that the call's contract cites answers what the paper says.
+abbrev pub Holds : Row → Type 0
+Holds row = (rest : List ℕ) → length rest ≤ row .room → row .asks rest ≡ row .says
+
+unfoldable pub All : List Row → Type 0
+All [] = Unit {0}
+All (row ∷ rows) = Holds row × All rows
+
+-- an image with nothing after it
+abbrev pub image : List ℕ → Says → Row
+image bytes said = record { asks = λ rest. imageSays (imageAnswer bytes); room = 0; says = said }
+
+-- an image with anything after it that question 4 allows
+abbrev pub imageAndMore : List ℕ → ℕ → Says → Row
+imageAndMore bytes room said = record { asks = λ rest. imageSays (imageAnswer (bytes ++ rest)); room = room; says = said }
+
+-- AA995566 30008001 0000000F
+abbrev pub jumping : List ℕ
+jumping = 0xAA ∷ 0x99 ∷ 0x55 ∷ 0x66 ∷ 0x30 ∷ 0x00 ∷ 0x80 ∷ 0x01 ∷ 0x00 ∷ 0x00 ∷ 0x00 ∷ 0x0F ∷ []
+
+unfoldable pub rows : List Row
+rows =
+    -- image AA995566 30008001 0000000D: Loaded, sync 0, end 12, one write
+    image (0xAA ∷ 0x99 ∷ 0x55 ∷ 0x66 ∷ 0x30 ∷ 0x00 ∷ 0x80 ∷ 0x01 ∷ 0x00 ∷ 0x00 ∷ 0x00 ∷ 0x0D ∷ []) (loads 0 12 1)
+    -- its first 11 bytes: 5 at 11
+    ∷ image (0xAA ∷ 0x99 ∷ 0x55 ∷ 0x66 ∷ 0x30 ∷ 0x00 ∷ 0x80 ∷ 0x01 ∷ 0x00 ∷ 0x00 ∷ 0x00 ∷ []) (refuses 5 11)
+    -- AA995566 30008001 0000000F and more: 6 at 8
+    ∷ imageAndMore jumping 16777204 (refuses 6 8)
+    -- AA995566 50000001: 5 at 4
+    ∷ image (0xAA ∷ 0x99 ∷ 0x55 ∷ 0x66 ∷ 0x50 ∷ 0x00 ∷ 0x00 ∷ 0x01 ∷ []) (refuses 5 4)
+    -- no bytes: 4
+    ∷ image [] (refuses 4 0)
+    ∷ []
