@@ -12,10 +12,19 @@ use Rattle.cases.specs.Cases.{imageSays, All, jumping, rows}
 
 table : All rows
 unfolding All rows imageSays imageAnswer imageLength aloneCase ask readAt searchFrom jump find starts words trace finish afterHeader modeOf headOf type1Of type2Of registerOk effectOf
-table =
-    (λ rest h. refl,
-    (λ rest h. refl,
-    (λ rest h. rw (le-leb 1 (length (jumping ++ rest)) (omega arith), le-leb (length (jumping ++ rest)) 16777216 (omega arith)) refl,
-    (λ rest h. refl,
-    (λ rest h. refl,
-    tt)))))
+table = (
+  λ rest h. refl,
+  (
+    λ rest h. refl,
+    (
+      λ rest h. rw (le-leb 1 (length (jumping ++ rest)) (omega arith), le-leb (length (jumping ++ rest)) 16777216 (omega arith)) refl,
+      (
+        λ rest h. refl,
+        (
+          λ rest h. refl,
+          tt,
+        ),
+      ),
+    ),
+  ),
+)
