@@ -16,12 +16,17 @@ use Rattle.packets.specs.declared.walk.Finish.the-variants.{Ended, Iprog
 use Rattle.packets.specs.declared.reader.Outcome.{Outcome}
 use Rattle.packets.specs.declared.reader.Outcome.the-variants.{Loaded}
 use Rattle.packets.specs.declared.writes.Write.{Write}
-use Rattle.packets.proofs.FramingLaws.{find-past, find-within, words-cons, room}
+use Rattle.packets.proofs.FramingLaws.{find-here, find-past, find-within, stands-at, words-cons, room}
 use Rattle.packets.proofs.ReadingLaws.{read-ended, read-jump, search-found, search-none, jump-on, alone-parts}
 use Rattle.packets.proofs.PlacementLaws.{find-moved, lookedTo, movedFinish, finish-moved, ended-after}
-pub use Rattle.packets.proofs.FramingLaws.{differs-at, stands-at, find-here, word-of}
+pub use Rattle.packets.proofs.FramingLaws.{differs-at, word-of}
 pub use Rattle.packets.proofs.PlacementLaws.{movedWrite}
 pub use Rattle.packets.proofs.AnswerLaws.{onAnswer, by-answer, accepted-reads, accepted-sync, opened-rest, chip-steps, image-steps}
+
+-- Places apart, moved writes are the same writes.
+moved-contents : (d : ℕ) (writes : List Write) → contents (map (movedWrite d) writes) ≡ contents writes
+moved-contents d [] = refl
+moved-contents d (w ∷ writes) = ap (λ (l : List (ℕ × ℕ)). (w .register, w .word) ∷ l) (moved-contents d writes)
 
 -- An image that reads alone to Loaded stands, as far as its reading went, d further on in t.
 module _ (s t : List ℕ) (d from sync end writes : ℕ) (jumped : Bool)
@@ -65,10 +70,9 @@ module _ (s t : List ℕ) (d from sync end writes : ℕ) (jumped : Bool)
   unfolding listed
   placed-writes after = rw (add-assoc d sync 4) (moved .1)
 
--- Places apart, moved writes are the same writes.
-pub moved-contents : (d : ℕ) (writes : List Write) → contents (map (movedWrite d) writes) ≡ contents writes
-moved-contents d [] = refl
-moved-contents d (w ∷ writes) = ap (λ (l : List (ℕ × ℕ)). (w .register, w .word) ∷ l) (moved-contents d writes)
+  -- and so, places apart, the same writes
+  pub placed-contents : (after : Bool) → contents (listed t (Loaded (d + sync) (d + end) writes after)) ≡ contents (listed s (Loaded sync end writes jumped))
+  placed-contents after = ap contents (placed-writes after) ∙ moved-contents d (listed s (Loaded sync end writes jumped))
 
 -- LOCALITY: a reading that is Loaded without a jump depends only on the bytes from its start to its end.
 pub local : (s t : List ℕ) (from sync end writes : ℕ) (jumped : Bool) → readFrom 0 jumped s from ≡ Loaded sync end writes jumped → end ≤ length t →
@@ -88,9 +92,16 @@ local s t from sync end writes jumped alone fits stands left after =
     unmoved [] = refl
     unmoved (w ∷ l) = ap₂ (λ (x : Write) (k : List Write). x ∷ k) (same w) (unmoved l)
 
--- SKIPPING: a search passes over places where no sync word begins. (`differs-at` says where none does.)
-pub search-past : (left : ℕ) (jumped : Bool) (t : List ℕ) (at k : ℕ) → at + k ≤ length t → ((i : ℕ) → i < k → starts syncBytes (drop (at + i) t) ≡ false) →
-    readFrom left jumped t at ≡ readFrom left jumped t (at + k)
+-- NO SYNC WORD BEGINS at any of the k places from `at` on. (`differs-at` says where none does.)
+abbrev pub NoneIn : List ℕ → ℕ → ℕ → Type 0
+NoneIn t at k = (i : ℕ) → i < k → starts syncBytes (drop (at + i) t) ≡ false
+
+-- A SYNC WORD STANDS at a place.
+abbrev pub Stands : List ℕ → ℕ → Type 0
+Stands t at = (j : ℕ) → j < 4 → getD t (at + j) 0 ≡ getD syncBytes j 0
+
+-- SKIPPING: a search passes over places where no sync word begins.
+pub search-past : (left : ℕ) (jumped : Bool) (t : List ℕ) (at k : ℕ) → at + k ≤ length t → NoneIn t at k → readFrom left jumped t at ≡ readFrom left jumped t (at + k)
 search-past left jumped t at k l h = go (find (drop (at + k) t) (at + k)) refl
   where
     go : (f : Found) → find (drop (at + k) t) (at + k) ≡ f → readFrom left jumped t at ≡ readFrom left jumped t (at + k)
@@ -116,17 +127,18 @@ header-jumps : (to p : ℕ) (rest : List ℕ) → finish (trace (0x30020001 ∷ 
 unfolding trace finish afterHeader headOf type1Of ask registerOk effectOf modeOf
 header-jumps to p rest = refl
 
--- JUMP: a sync word, then the words 30020001, a byte's place, 30008001 and 0000000F: the search goes on at that place.
-pub jumps-to : (left : ℕ) (jumped : Bool) (t : List ℕ) (from sync to : ℕ) → find (drop from t) from ≡ At sync → sync + 20 ≤ length t →
-    wordAt t (sync + 4) ≡ 0x30020001 → wordAt t (sync + 8) ≡ to → wordAt t (sync + 12) ≡ 0x30008001 → wordAt t (sync + 16) ≡ 0x0000000F →
+-- JUMP: the first sync word, then the words 30020001, a byte's place, 30008001 and 0000000F: the search goes on at that place.
+pub jumps-to : (left : ℕ) (jumped : Bool) (t : List ℕ) (from k to : ℕ) → NoneIn t from k → Stands t (from + k) → from + k + 20 ≤ length t →
+    wordAt t (from + k + 4) ≡ 0x30020001 → wordAt t (from + k + 8) ≡ to → wordAt t (from + k + 12) ≡ 0x30008001 → wordAt t (from + k + 16) ≡ 0x0000000F →
     to < length t → to < 2 ^ 29 → readFrom (suc left) jumped t from ≡ readFrom left true t to
-jumps-to left jumped t from sync to e l a b c d far near =
-    let p₁ : sync + 4 + 4 ≡ sync + 8 = omega arith in
-    let p₂ : sync + 8 + 4 ≡ sync + 12 = omega arith in
-    let p₃ : sync + 12 + 4 ≡ sync + 16 = omega arith in
-    let fin = rw (p₁, p₂, p₃, a, b, c, d) at (ap (λ (ws : List ℕ). finish (trace ws (sync + 4) (header other)) 0 0) (four-words t (sync + 4) (omega arith))) in
+jumps-to left jumped t from k to none here l a b c d far near =
+    let e : find (drop from t) from ≡ At (from + k) = find-past t k from (omega arith) none ∙ find-here (drop (from + k) t) (from + k) (stands-at t (from + k) (omega arith) here) in
+    let p₁ : from + k + 4 + 4 ≡ from + k + 8 = omega arith in
+    let p₂ : from + k + 8 + 4 ≡ from + k + 12 = omega arith in
+    let p₃ : from + k + 12 + 4 ≡ from + k + 16 = omega arith in
+    let fin = rw (p₁, p₂, p₃, a, b, c, d) at (ap (λ (ws : List ℕ). finish (trace ws (from + k + 4) (header other)) 0 0) (four-words t (from + k + 4) (omega arith))) in
     let stays : to % 2 ^ 29 ≡ to = mod-eq-of-lt near in
-    search-found (jump (suc left) t) jumped t from sync e
-    ∙ read-jump (jump (suc left) t) jumped t sync _ _ (fin ∙ header-jumps to (sync + 4) _)
+    search-found (jump (suc left) t) jumped t from (from + k) e
+    ∙ read-jump (jump (suc left) t) jumped t (from + k) _ _ (fin ∙ header-jumps to (from + k + 4) _)
     ∙ jump-on (suc left) t _ (to % 2 ^ 29) (λ z. omega arith) (rw stays far)
-    ∙ (let k : suc left - 1 ≡ left = omega arith in rw (k, stays) refl)
+    ∙ (let q : suc left - 1 ≡ left = omega arith in rw (q, stays) refl)

@@ -32,6 +32,7 @@ afterWrite write left remaining = record {
   remaining = elim (effectOf (write .register) (write .word)) [ GoesOn ↦ remaining | Desync ↦ 0 | Iprog ↦ 0 ];
 }
 
+-- the first write of a trace, with the cursor after it
 unfoldable pub firstOf : Trace → ℕ → CursorStep
 firstOf (wrote write left more) remaining = Wrote write (afterWrite write left remaining)
 firstOf (ended end) remaining = Done

@@ -7,12 +7,12 @@ use Rattle.packets.specs.declared.header.Header.the-variants.{Nop, Type1
 use Rattle.packets.specs.declared.header.Effect.{Effect}
 use Rattle.packets.specs.declared.header.Effect.the-variants.{GoesOn, Desync, Iprog}
 
--- One question: the rest is asked only where the answer is yes.
+-- One question: where the answer is no the refusal, else what is asked next.
 unfoldable pub ask {ℓ} : {A : Type ℓ} → Bool → A → A → A
 ask true refused rest = rest
 ask false refused rest = refused
 
--- the bits from high down to low of a word
+-- so many bits of a word, from bit `low` up
 abbrev pub field : ℕ → ℕ → ℕ → ℕ
 field word low width = word / 2 ^ low % 2 ^ width
 

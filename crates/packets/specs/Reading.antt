@@ -1,5 +1,6 @@
 -- Words to packets to writes, and from sync to sync. Document 01, "How the configuration reader reads".
 use Prim.Native.Nat.{ℕ, zero, suc, _+_, _%_, _^_}
+use mathlib.Core.Path.{_≡_}
 use mathlib.Core.Bool.{Bool, true, false}
 use mathlib.Core.Option.{Option, some, none}
 use mathlib.Core.List.{List, [], _∷_, map}
@@ -136,9 +137,13 @@ listed bytes (Loaded sync end writes jumped) = writesFrom bytes (sync + 4)
 listed bytes (NoJump place) = []
 listed bytes (Stuck place) = []
 
--- The writes places apart: two readings load the same, whole, where these agree.
+-- the writes, places apart
 abbrev pub contents : List Write → List (ℕ × ℕ)
 contents writes = map (λ w. (w .register, w .word)) writes
+
+-- A chip loads an image whole: the list, places apart, is the list of the image read alone.
+abbrev pub LoadsWhole : List ℕ → List ℕ → Type 0
+LoadsWhole chip image = contents (listed chip (readChip chip)) ≡ contents (listed image (readAlone image))
 
 -- the i-th, counted from 0, or that there is none
 unfoldable pub nthWrite : List Write → ℕ → WriteAnswer

@@ -52,24 +52,24 @@ walkOf s w = comes (w .status) s w
 
 -- the writes passed are at most the bytes passed, and a write that was reached lies whole within the bytes
 unfoldable pub HeldBy : Status → ℕ → Walk → Type 0
-HeldBy Going length w = w .writes ≤ w .at
-HeldBy AtWrite length w = w .at + 4 ≤ length
-HeldBy AtEnd length w = Unit {0}
-HeldBy AtIprog length w = Unit {0}
-HeldBy AtFault length w = Unit {0}
-HeldBy AtShort length w = Unit {0}
+HeldBy Going size w = w .writes ≤ w .at
+HeldBy AtWrite size w = w .at + 4 ≤ size
+HeldBy AtEnd size w = Unit {0}
+HeldBy AtIprog size w = Unit {0}
+HeldBy AtFault size w = Unit {0}
+HeldBy AtShort size w = Unit {0}
 
 abbrev pub Held : ℕ → Walk → Type 0
-Held length w = HeldBy (w .status) length w
+Held size w = HeldBy (w .status) size w
 
 -- how far a walk still has to go
 unfoldable pub leftBy : Status → ℕ → ℕ → ℕ
-leftBy Going length at = suc (length - at)
-leftBy AtWrite length at = 0
-leftBy AtEnd length at = 0
-leftBy AtIprog length at = 0
-leftBy AtFault length at = 0
-leftBy AtShort length at = 0
+leftBy Going size at = suc (size - at)
+leftBy AtWrite size at = 0
+leftBy AtEnd size at = 0
+leftBy AtIprog size at = 0
+leftBy AtFault size at = 0
+leftBy AtShort size at = 0
 
 -- what a step of a walk keeps: what the walk comes to, and that it comes nearer
 pub record Stepped (s : List ℕ) (w r : Walk) : Type 0 where
@@ -136,5 +136,5 @@ endingOf w run Jumps = stoppedAt w (w .at + 4 * run) 0 AtIprog
 
 -- a write that was reached lies whole within the bytes
 unfoldable pub Inside : ℕ → Walked → Type 0
-Inside length (Reached write left) = write .place + 4 ≤ length
-Inside length (Finished end) = Unit {0}
+Inside size (Reached write left) = write .place + 4 ≤ size
+Inside size (Finished end) = Unit {0}

@@ -7,6 +7,6 @@ pub mod chip;
 mod framing;
 mod header;
 pub mod image;
-mod reader;
+pub mod reader;
 mod walk;
 pub mod writes;

@@ -9,8 +9,8 @@ use crate::framing::find_sync;
 use crate::walk::Finish;
 use crate::walk::finish_from;
 
-// What a reading comes to.
-pub(crate) enum Outcome {
+// What a reading comes to. It is public for the laws that crates above cite; no public call answers it.
+pub enum Outcome {
     // DESYNC was met.
     Loaded {
         sync: usize,
