@@ -575,6 +575,33 @@ fn chip_cases() -> Tally {
     stuck(t, &chip_of(4092, &segment1, 12288, &[SYNC, NOP, 0]), 12296)
 }
 
+// Source 001's two examples: a switch word, the jump, a golden image of one write and an update of
+// two. With the sync word in its place the update loads; with any other word there golden does.
+fn switched(t: Tally, word: u32, on: bool) -> Tally {
+    let mut chip = chip_of(
+        4092,
+        &[word, WBSTAR_1, 0x3000, CMD_1, IPROG, NOP],
+        8192,
+        &[SYNC, CMD_1, DESYNC],
+    );
+    put(&mut chip, 12288, &[SYNC, 0x3000_8002, 5, DESYNC]);
+    if on {
+        loads(t, &chip, 12288, 12304, 2, true)
+    } else {
+        loads(t, &chip, 8192, 8204, 1, false)
+    }
+}
+
+fn switch_cases() -> Tally {
+    let mut t = switched(none(), SYNC, true);
+    t = switched(t, 0xFFFF_FFFF, false);
+    t = switched(t, 0x0000_0000, false);
+    // one bit off, and what a cut program can leave
+    t = switched(t, 0xAA99_5567, false);
+    t = switched(t, 0xAA99_55FF, false);
+    switched(t, 0xFF99_5566, false)
+}
+
 // Where a jump goes: bits 28 to 0 of the last WBSTAR word, or 0.
 fn jump_cases() -> Tally {
     let image = [SYNC, CMD_1, DESYNC];
@@ -724,6 +751,7 @@ fn main() {
     say(b"data", data_cases());
     say(b"truncation", truncations());
     say(b"chip", chip_cases());
+    say(b"switch", switch_cases());
     say(b"jump", jump_cases());
     say(b"listing", listing_cases());
 }
