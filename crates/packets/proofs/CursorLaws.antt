@@ -1,10 +1,10 @@
 -- Laws of the cursor: its steps give the writes that it has to give, one by one.
-use Prim.Native.Nat.{ℕ, zero, suc, _+_, _<_, _≤_}
+use Prim.Native.Nat.{ℕ, zero, suc, _+_}
 use mathlib.Core.Path.{_≡_, refl, sym, ap, _∙_}
 use mathlib.Core.Option.{Option, some, none}
 use mathlib.Core.List.{List, [], _∷_}
 use native.Mathlib.Omega.{arith}
-use lib.ListN.{length, getD, drop, take}
+use lib.ListN.{getD, drop, take}
 use lib.Seq.{take-nil}
 use Rattle.packets.specs.Framing.{words}
 use Rattle.packets.specs.Packet.{headOf, effectOf}

@@ -9,11 +9,10 @@ use lib.ListN.{length, getD, drop, length-drop}
 use lib.Seq.{getD-drop}
 use Rattle.packets.specs.Framing.{syncBytes, starts, find, words, wordAt}
 use Rattle.packets.specs.Packet.{ask, registerOk, type1Of, headOf, effectOf}
-use Rattle.packets.specs.Reading.{other, header, modeOf, afterHeader, trace, finish, finishFrom, writesFrom, searchFrom, jump, readFrom, listed, contents}
+use Rattle.packets.specs.Reading.{other, header, modeOf, afterHeader, trace, finish, finishFrom, writesFrom, jump, readFrom, listed, contents}
 use Rattle.packets.specs.declared.framing.Found.{Found}
 use Rattle.packets.specs.declared.framing.Found.the-variants.{At, Nothing as NoSync}
-use Rattle.packets.specs.declared.walk.Finish.the-variants.{Ended, Iprog, Short}
-use Rattle.packets.specs.declared.reader.Outcome.{Outcome}
+use Rattle.packets.specs.declared.walk.Finish.the-variants.{Ended, Iprog}
 use Rattle.packets.specs.declared.reader.Outcome.the-variants.{Loaded}
 use Rattle.packets.specs.declared.writes.Write.{Write}
 use Rattle.packets.proofs.FramingLaws.{find-here, find-past, find-within, stands-at, words-cons, room}

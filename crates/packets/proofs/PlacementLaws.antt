@@ -1,27 +1,23 @@
 -- Locality and placement: a reading depends only on the bytes that it looked at, wherever they stand.
-use Prim.Native.Nat.{ℕ, zero, suc, _+_, _-_, _*_, _/_, _<_, _≤_}
+use Prim.Native.Nat.{ℕ, suc, _+_, _-_, _*_, _<_, _≤_}
 use mathlib.Core.Path.{_≡_, refl, sym, ap, _∙_}
 use mathlib.Core.Bool.{Bool, true, false}
 use mathlib.Core.Option.{Option, some, none}
 use mathlib.Core.List.{List, [], _∷_, map}
 use native.Mathlib.Nat.{add-zero, add-assoc}
 use native.Mathlib.Omega.{arith}
-use lib.ListN.{length, getD, drop, length-drop}
-use lib.Seq.{getD-drop}
+use lib.ListN.{length, getD, drop}
 use Rattle.packets.specs.Framing.{syncBytes, starts, find, words}
 use Rattle.packets.specs.Packet.{headOf, effectOf}
-use Rattle.packets.specs.Reading.{other, Mode, header, payload, modeOf, afterHeader, Trace, wrote, ended, jumps, faulty, short, trace, lastWbstar, finish, listOf, finishFrom, writesFrom, readFrom, jump, contents}
-use Rattle.packets.specs.declared.framing.Found.the-variants.{At, Nothing as NoSync}
+use Rattle.packets.specs.Reading.{other, Mode, header, payload, modeOf, afterHeader, Trace, trace, lastWbstar, finish, listOf, finishFrom, writesFrom}
+use Rattle.packets.specs.declared.framing.Found.the-variants.{At}
 use Rattle.packets.specs.declared.header.Effect.{Effect}
 use Rattle.packets.specs.declared.header.Effect.the-variants.{GoesOn, Desync, Iprog as Jumps}
 use Rattle.packets.specs.declared.walk.Finish.{Finish}
 use Rattle.packets.specs.declared.walk.Finish.the-variants.{Ended, Iprog, Fault, Short}
-use Rattle.packets.specs.declared.reader.Outcome.{Outcome}
-use Rattle.packets.specs.declared.reader.Outcome.the-variants.{Loaded}
 use Rattle.packets.specs.declared.writes.Write.{Write}
-use Rattle.packets.proofs.FramingLaws.{false-of, starts-length, starts-at, starts-all, find-here, find-next, find-within, word-of, word-after, room}
+use Rattle.packets.proofs.FramingLaws.{false-of, starts-at, starts-all, find-here, find-next, find-within, word-of, word-after, room}
 use Rattle.packets.proofs.TraceLaws.{trace-none, trace-header, trace-fault, trace-data, trace-desync, trace-iprog}
-use Rattle.packets.proofs.ReadingLaws.{read-ended, search-found, alone-parts}
 
 -- The search: where the same bytes stand, the sync word is found at the same distance.
 pub find-moved : (xs ys : List ℕ) (p q i : ℕ) → find xs p ≡ At (p + i) → i + 4 ≤ length ys → ((j : ℕ) → j < i + 4 → getD ys j 0 ≡ getD xs j 0) → find ys q ≡ At (q + i)

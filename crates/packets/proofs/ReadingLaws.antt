@@ -2,14 +2,14 @@
 use Prim.Native.Nat.{ℕ, zero, suc, _+_, _-_, _<_, _≤_}
 use mathlib.Core.Path.{_≡_, refl, sym, ap, _∙_}
 use mathlib.Core.Bool.{Bool, true, false}
-use mathlib.Core.List.{List, [], _∷_}
+use mathlib.Core.List.{List}
 use native.Mathlib.Nat.{le-of-lt}
 use native.Mathlib.Omega.{arith}
 use borrow.Author.Tests.{lt-ltb, le-ltb, ltb-true}
 use lib.Dec.{ltb}
 use lib.ListN.{length, drop, length-drop}
 use Rattle.packets.specs.Framing.{find}
-use Rattle.packets.specs.Reading.{Trace, wrote, ended, jumps, faulty, short, finish, listOf, lastWbstar, finishFrom, writesFrom, traceFrom, readAt, searchFrom, jump, readFrom}
+use Rattle.packets.specs.Reading.{Trace, wrote, ended, jumps, faulty, short, finish, listOf, lastWbstar, finishFrom, readAt, searchFrom, jump, readFrom}
 use Rattle.packets.specs.declared.framing.Found.{Found}
 use Rattle.packets.specs.declared.framing.Found.the-variants.{At, Nothing as NoSync}
 use Rattle.packets.specs.declared.walk.Finish.{Finish}

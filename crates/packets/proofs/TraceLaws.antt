@@ -4,7 +4,7 @@ use mathlib.Core.Path.{_≡_, refl}
 use mathlib.Core.Option.{some, none}
 use mathlib.Core.List.{List, [], _∷_}
 use Rattle.packets.specs.Packet.{headOf, effectOf}
-use Rattle.packets.specs.Reading.{Before, other, Mode, header, payload, modeOf, afterHeader, Trace, wrote, ended, jumps, faulty, short, trace}
+use Rattle.packets.specs.Reading.{Before, other, Mode, header, payload, modeOf, afterHeader, wrote, ended, jumps, faulty, short, trace}
 use Rattle.packets.specs.declared.header.Effect.the-variants.{GoesOn, Desync, Iprog}
 
 pub trace-none : (p : ℕ) (m : Mode) → trace [] p m ≡ short

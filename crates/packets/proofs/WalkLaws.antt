@@ -6,7 +6,7 @@ use mathlib.Core.Option.{Option, some, none}
 use mathlib.Core.List.{List, [], _∷_}
 use native.Mathlib.Nat.{add-zero, sub-zero, sub-self}
 use native.Mathlib.Omega.{arith}
-use borrow.Author.Tests.{eqb-true, eq-eqb, ne-eqb}
+use borrow.Author.Tests.{ne-eqb}
 use lib.Dec.{eqb}
 use lib.ListN.{length, getD, drop, length-drop}
 use lib.Seq.{drop-length}
@@ -14,17 +14,15 @@ use Rattle.packets.specs.Framing.{words, wordAt}
 use Rattle.packets.specs.Packet.{ask, headOf, effectOf, CMD, WBSTAR}
 use Rattle.packets.specs.Reading.{Before, other, Mode, header, payload, modeOf, afterHeader, Trace, wrote, ended, jumps, faulty, short, trace, lastWbstar, target, finish, listOf, traceFrom, finishFrom, writesFrom, nthWrite}
 use Rattle.packets.specs.Walk.{walked, beforeOf, going, comes, walkOf, startOf, onward, stoppedAt, reachedAt, passed, endingOf, HeldBy, Held, leftBy, Stepped, Inside}
-use Rattle.packets.specs.declared.header.Header.{Header}
 use Rattle.packets.specs.declared.header.Effect.{Effect}
 use Rattle.packets.specs.declared.header.Effect.the-variants.{GoesOn, Desync, Iprog as Jumps}
 use Rattle.packets.specs.declared.walk.Finish.{Finish}
-use Rattle.packets.specs.declared.walk.Finish.the-variants.{Ended, Iprog, Fault, Short}
+use Rattle.packets.specs.declared.walk.Finish.the-variants.{Ended, Iprog, Short}
 use Rattle.packets.specs.declared.walk.Walk.{Walk}
 use Rattle.packets.specs.declared.walk.Status.{Status}
 use Rattle.packets.specs.declared.walk.Status.the-variants.{Going, Reached as AtWrite, Ended as AtEnd, Iprog as AtIprog, Fault as AtFault, Short as AtShort}
 use Rattle.packets.specs.declared.walk.Walked.{Walked}
 use Rattle.packets.specs.declared.walk.Walked.the-variants.{Reached, Finished}
-use Rattle.packets.specs.declared.writes.Write.{Write}
 use Rattle.packets.specs.declared.writes.WriteAnswer.{WriteAnswer}
 use Rattle.packets.specs.declared.writes.WriteAnswer.the-variants.{Found, Nothing}
 use Rattle.packets.proofs.TraceLaws.{trace-header, trace-fault, trace-data, trace-desync, trace-iprog}

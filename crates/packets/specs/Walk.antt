@@ -10,8 +10,6 @@ use Rattle.packets.specs.Packet.{WBSTAR}
 use Rattle.packets.specs.Reading.{Before, opened, other, Trace, wrote, ended, jumps, faulty, short, trace, modeOf, lastWbstar, target}
 use Rattle.packets.specs.declared.header.Effect.{Effect}
 use Rattle.packets.specs.declared.header.Effect.the-variants.{GoesOn, Desync, Iprog as Jumps}
-use Rattle.packets.specs.declared.writes.Write.{Write}
-use Rattle.packets.specs.declared.walk.Finish.{Finish}
 use Rattle.packets.specs.declared.walk.Finish.the-variants.{Ended, Iprog, Fault, Short}
 use Rattle.packets.specs.declared.walk.Walk.{Walk}
 use Rattle.packets.specs.declared.walk.Walked.{Walked}

@@ -4,7 +4,7 @@ ghost use Prim.Native.Nat.{ℕ, _+_, _-_, _<_, _≤_};
 ghost use lib.ListN.{length, getD, drop};
 ghost use Rattle.packets.specs.Framing.{syncBytes, find, words, wordAt};
 
-pub(crate) const SYNC: [u8; 4] = [0xAA, 0x99, 0x55, 0x66];
+const SYNC: [u8; 4] = [0xAA, 0x99, 0x55, 0x66];
 
 // Where a search ended.
 pub(crate) enum Found {
@@ -27,7 +27,7 @@ fn skip_after(last: u8) -> usize
 }
 
 // The first place at or after `from` where four bytes read AA 99 55 66, at any byte. Where they do
-// not, the fourth byte says how far the next place is at which they can: most bytes are not read.
+// not, the fourth says how far on the next place is at which they can: four bytes, mostly.
 pub(crate) fn find_sync(s: &[u8], from: usize) -> Found
     requires { ⌜ from ≤ length (now s) ⌝ }
     ensures { λ r. ⌜ r ≡ find (drop from (now (s .entry))) from ⌝ }

@@ -1,7 +1,6 @@
 // The writes that a reading lists: one by its index, or all in one pass by a cursor.
 ghost use mathlib.Core.Path.{_≡_};
-ghost use Prim.Native.Nat.{_+_, _≤_, _<_};
-ghost use lib.ListN.{length};
+ghost use Prim.Native.Nat.{_+_, _<_};
 ghost use Rattle.packets.specs.Reading.{nthWrite, writesFrom};
 ghost use Rattle.packets.specs.Cursor.{cursorAt, rest, stepOf, told, afterWrite};
 use crate::header::Effect;

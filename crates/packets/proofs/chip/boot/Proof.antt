@@ -1,6 +1,6 @@
 -- `chip::boot` meets its contract.
 use borrow.Author.Tests.{not-true, not-false}
-use mathlib.Core.Path.{_≡_, refl, sym, ap, _∙_}
+use mathlib.Core.Path.{refl, sym, _∙_}
 use Rattle.packets.specs.Packet.{ask}
 use Rattle.packets.specs.Answers.{bootAnswer, bootCase}
 use borrow.Author.Needs.{needs}

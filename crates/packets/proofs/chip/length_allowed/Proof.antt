@@ -1,6 +1,5 @@
 -- `chip::length_allowed` meets its contract.
-use borrow.Author.Tests.{eq-eqb, ne-eqb, lt-ltb, le-ltb, le-leb, lt-leb}
-use mathlib.Core.Path.{refl}
+use borrow.Author.Tests.{le-leb, lt-leb}
 use Rattle.packets.specs.Packet.{ask}
 use Rattle.packets.specs.Answers.{lengthAllowed}
 use Rattle.packets.proofs.chip.length_allowed.Statement.{statement}

@@ -2,9 +2,8 @@
 use Prim.Native.Nat.{ℕ, zero, suc, _-_, _≤_, _<_}
 use lib.ListN.{getD}
 use Rattle.packets.specs.Framing.{syncBytes}
-use mathlib.Core.Path.{_≡_, sym, _∙_}
+use mathlib.Core.Path.{_≡_}
 use native.Mathlib.Omega.{arith}
-use borrow.Author.Needs.{needs}
 use Rattle.packets.proofs.framing.skip_after.Statement.{statement}
 use Rattle.packets.proofs.framing.skip_after.Tie as tie
 

@@ -1,5 +1,4 @@
 -- `framing::word_at` meets its contract.
-use mathlib.Core.Path.{sym, _∙_}
 use native.Mathlib.Omega.{arith}
 use Rattle.packets.proofs.FramingLaws.{word-of}
 use borrow.Author.Needs.{needs}

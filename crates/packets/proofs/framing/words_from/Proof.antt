@@ -1,5 +1,5 @@
 -- `framing::words_from` meets its contract.
-use mathlib.Core.Path.{sym, _∙_}
+use mathlib.Core.Path.{sym}
 use native.Mathlib.Omega.{arith}
 use Rattle.packets.proofs.FramingLaws.{room}
 use borrow.Author.Needs.{needs}

@@ -1,5 +1,5 @@
 -- `header::effect_of` meets its contract.
-use borrow.Author.Tests.{eq-eqb, ne-eqb, lt-ltb, le-ltb, le-leb, lt-leb}
+use borrow.Author.Tests.{eq-eqb, ne-eqb}
 use Rattle.packets.specs.Packet.{ask, effectOf}
 use Rattle.packets.proofs.header.effect_of.Statement.{statement}
 use Rattle.packets.proofs.header.effect_of.Tie as tie

@@ -1,5 +1,5 @@
 -- `header::header_of` meets its contract.
-use borrow.Author.Tests.{eq-eqb, ne-eqb, lt-ltb, le-ltb, le-leb, lt-leb}
+use borrow.Author.Tests.{eq-eqb, ne-eqb}
 use mathlib.Core.Path.{_∙_}
 use Rattle.packets.specs.Packet.{ask, headOf}
 use borrow.Author.Needs.{needs}

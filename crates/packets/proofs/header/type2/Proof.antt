@@ -1,5 +1,5 @@
 -- `header::type2` meets its contract.
-use borrow.Author.Tests.{eq-eqb, ne-eqb, lt-ltb, le-ltb, le-leb, lt-leb}
+use borrow.Author.Tests.{eq-eqb, ne-eqb}
 use Rattle.packets.specs.Packet.{ask, type2Of}
 use Rattle.packets.proofs.header.type2.Statement.{statement}
 use Rattle.packets.proofs.header.type2.Tie as tie

@@ -1,5 +1,5 @@
 -- `image::length_allowed` meets its contract.
-use borrow.Author.Tests.{eq-eqb, ne-eqb, lt-ltb, le-ltb, le-leb, lt-leb}
+use borrow.Author.Tests.{le-leb, lt-leb}
 use native.Mathlib.Omega.{arith}
 use Rattle.packets.specs.Packet.{ask}
 use Rattle.packets.specs.Answers.{imageLength}

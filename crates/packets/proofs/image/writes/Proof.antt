@@ -1,6 +1,6 @@
 -- `image::writes` meets its contract: it goes by the image check.
 use Prim.Native.Nat.{_+_}
-use mathlib.Core.Path.{_≡_, refl, sym, ap, _∙_}
+use mathlib.Core.Path.{sym, ap, _∙_}
 use native.Mathlib.Omega.{arith}
 use Rattle.packets.proofs.AnswerLaws.{onAnswer, by-answer, accepted-sync}
 use Rattle.packets.specs.Cursor.{cursorAt}

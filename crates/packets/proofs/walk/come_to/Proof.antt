@@ -1,5 +1,5 @@
 -- `walk::come_to` meets its contract.
-use mathlib.Core.Path.{_≡_, refl, sym, ap, _∙_}
+use mathlib.Core.Path.{refl}
 use Rattle.packets.specs.Walk.{comes, HeldBy}
 use borrow.Author.Needs.{needs}
 use Rattle.packets.proofs.walk.come_to.Statement.{statement}

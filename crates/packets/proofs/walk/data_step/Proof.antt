@@ -1,5 +1,5 @@
 -- `walk::data_step` meets its contract: the first data word that ends or jumps, the wanted one, too few words, or the whole packet.
-use Prim.Native.Nat.{ℕ, _-_, _*_, _≤_, min}
+use Prim.Native.Nat.{_-_, _*_, _≤_, min}
 use mathlib.Core.Path.{_≡_, sym}
 use native.Mathlib.Omega.{arith}
 use lib.ListN.{length, drop}

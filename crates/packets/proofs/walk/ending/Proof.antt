@@ -1,5 +1,5 @@
 -- `walk::ending` meets its contract.
-use mathlib.Core.Path.{_≡_, refl, sym, ap, _∙_}
+use mathlib.Core.Path.{_≡_, sym, ap, _∙_}
 use lib.ListN.{getD, drop}
 use Rattle.packets.specs.Framing.{words}
 use Rattle.packets.specs.Packet.{effectOf}

@@ -2,10 +2,8 @@
 use Prim.Native.Nat.{ℕ}
 use mathlib.Core.Path.{_≡_, sym, ap, _∙_}
 use native.Mathlib.Omega.{arith}
-use lib.ListN.{length}
 use Rattle.packets.specs.Reading.{finishFrom}
 use Rattle.packets.specs.Walk.{walkOf, HeldBy}
-use Rattle.packets.specs.declared.walk.Finish.{Finish}
 use Rattle.packets.specs.declared.walk.Walked.the-variants.{Finished}
 use Rattle.packets.proofs.WalkLaws.{finish-walk}
 use borrow.Author.Needs.{needs}

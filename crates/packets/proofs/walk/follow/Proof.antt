@@ -1,11 +1,10 @@
 -- `walk::follow` meets its contract. The invariant: the walk from here comes to what the walk from the start comes to.
-use Prim.Native.Nat.{_≤_}
-use mathlib.Core.Path.{_≡_, refl, sym, _∙_}
+use mathlib.Core.Path.{_≡_, refl, _∙_}
 use mathlib.Core.Logic.{⊎-elim}
 use native.Mathlib.Omega.{arith}
 use borrow.Author.Needs.{needs}
 use lib.ListN.{length}
-use Rattle.packets.specs.Walk.{walkOf, HeldBy, Held, leftBy, Inside}
+use Rattle.packets.specs.Walk.{walkOf, HeldBy, Held, leftBy}
 use Rattle.packets.proofs.WalkLaws.{inside}
 use Rattle.packets.proofs.walk.follow.Statement.{statement}
 use Rattle.packets.proofs.walk.follow.Tie as tie

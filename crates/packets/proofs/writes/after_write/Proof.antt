@@ -1,6 +1,5 @@
 -- `writes::after_write` meets its contract.
-use Prim.Native.Nat.{ℕ}
-use mathlib.Core.Path.{_≡_, refl, sym, ap, _∙_}
+use mathlib.Core.Path.{_≡_, refl, sym, _∙_}
 use mathlib.Core.Logic.{⊎-elim}
 use Rattle.packets.specs.Packet.{effectOf}
 use Rattle.packets.specs.Cursor.{afterWrite}

@@ -1,5 +1,5 @@
 -- `writes::nth_from` meets its contract.
-use mathlib.Core.Path.{_≡_, sym, ap, _∙_}
+use mathlib.Core.Path.{_≡_, ap, _∙_}
 use native.Mathlib.Omega.{arith}
 use Rattle.packets.specs.Reading.{nthWrite, writesFrom}
 use Rattle.packets.specs.Walk.{walkOf, HeldBy}

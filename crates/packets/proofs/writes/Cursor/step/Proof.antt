@@ -1,8 +1,7 @@
 -- `writes::Cursor::step` meets its contract.
-use Prim.Native.Nat.{ℕ, suc, _+_, _-_, _≤_}
-use mathlib.Core.Path.{_≡_, refl, sym, ap, _∙_}
+use Prim.Native.Nat.{suc, _-_}
+use mathlib.Core.Path.{_≡_, ap, _∙_}
 use native.Mathlib.Omega.{arith}
-use lib.ListN.{length}
 use Rattle.packets.specs.Walk.{beforeOf, comes, going, HeldBy, Inside}
 use Rattle.packets.specs.Cursor.{stepOf}
 use Rattle.packets.specs.declared.writes.CursorStep.the-variants.{Wrote}
