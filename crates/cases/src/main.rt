@@ -501,7 +501,7 @@ fn data_cases() -> Tally {
     t = refuses_words(t, &[SYNC, 0x3000_8002, 0], 5, 12);
     t = refuses_words(t, &[SYNC, 0x3000_27FF, 1, 2], 5, 16);
     t = refuses_words(t, &[SYNC, CMD_0, 0x57FF_FFFF, 1], 5, 16);
-    // the 7 Series guide's IPROG sequence
+    // the 7 Series guide's IPROG sequence (docs/DECISIONS.md, 20)
     let guide = [0xFFFF_FFFF, SYNC, NOP, WBSTAR_1, 0, CMD_1, IPROG, NOP];
     refuses_words(t, &guide, 6, 24)
 }

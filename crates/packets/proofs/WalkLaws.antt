@@ -26,7 +26,7 @@ use Rattle.packets.specs.declared.walk.Walked.the-variants.{Reached, Fin
 use Rattle.packets.specs.declared.writes.WriteAnswer.{WriteAnswer}
 use Rattle.packets.specs.declared.writes.WriteAnswer.the-variants.{Found, Nothing}
 use Rattle.packets.proofs.TraceLaws.{trace-header, trace-fault, trace-data, trace-desync, trace-iprog}
-use Rattle.packets.proofs.FramingLaws.{words-cons, words-none, words-on, word-after, room}
+use Rattle.packets.proofs.FramingLaws.{words-cons, nil-of-length, words-on, word-after, room}
 
 -- One header.
 
@@ -41,7 +41,7 @@ module _ (s : List ℕ) (w : Walk) (status : w .status ≡ Going) (none-left : w
 
   pub header-short : length (words (drop (w .at) s)) ≡ 0 → Stepped s w (stoppedAt w (w .at) 0 AtShort)
   unfolding walked trace comes HeldBy leftBy
-  header-short h = record { same = rw (words-none (words (drop (w .at) s)) h) at at-header; held = tt; nearer = omega arith }
+  header-short h = record { same = rw (nil-of-length (words (drop (w .at) s)) h) at at-header; held = tt; nearer = omega arith }
 
   pub header-on : 0 < length (words (drop (w .at) s)) → (register left : ℕ) (opens : Bool) →
       afterHeader (headOf (wordAt s (w .at))) (beforeOf (w .opened) (w .register)) ≡ some (modeOf left register (beforeOf opens register)) → Stepped s w (onward w register left opens)

@@ -1,7 +1,7 @@
 // The packets from a place on: headers one by one, data words by the packet. Only the data words of
 // CMD are looked at; of every other register they are counted, and the last WBSTAR word is kept.
 ghost use mathlib.Core.Path.{_≡_};
-ghost use Prim.Native.Nat.{ℕ, _+_, _-_, _*_, _<_, _≤_, min};
+ghost use Prim.Native.Nat.{ℕ, _+_, _-_, _*_, _^_, _<_, _≤_, min};
 ghost use lib.ListN.{length, getD, drop};
 ghost use Rattle.packets.specs.Framing.{words};
 ghost use Rattle.packets.specs.Packet.{effectOf};
@@ -92,7 +92,7 @@ fn quiet(s: &[u8], at: usize, register: u32, most: usize) -> usize
 
 // The walk after a header at its place, with `left` data words for `register` to come.
 fn after_header(w: Walk, register: u32, left: usize, opened: bool) -> Walk
-    requires { ⌜ w .at + 4 < 18446744073709551616 ⌝ }
+    requires { ⌜ w .at + 4 < 2 ^ 64 ⌝ }
     ensures { λ r. ⌜ r ≡ onward w register left opened ⌝ }
 {
     Walk {
@@ -155,13 +155,14 @@ fn ending(s: &[u8], w: Walk, run: usize) -> Walk
     match effect {
         Effect::Desync => stopped(w, place + 4, w.writes + run + 1, Status::Ended),
         Effect::Iprog => stopped(w, place, 0, Status::Iprog),
+        // never met by `data_step`, which asks only at a word that does not let the reading go on
         Effect::GoesOn => stopped(w, place, 0, Status::Short),
     }
 }
 
 // The walk at the write that it was sent for, `run` data words on.
 fn reached(w: Walk, run: usize) -> Walk
-    requires { ⌜ (run < w .left) × (w .at + 4 * run < 18446744073709551616) ⌝ }
+    requires { ⌜ (run < w .left) × (w .at + 4 * run < 2 ^ 64) ⌝ }
     ensures { λ r. ⌜ r ≡ reachedAt w run ⌝ }
 {
     Walk {
@@ -245,6 +246,7 @@ fn come_to(s: &[u8], w: Walk) -> Walked
         }),
         Status::Fault => Walked::Finished(Finish::Fault { place: at }),
         Status::Short => Walked::Finished(Finish::Short),
+        // ruled out by the `requires`
         Status::Going => Walked::Finished(Finish::Short),
     }
 }
@@ -277,6 +279,7 @@ pub(crate) fn finish_from(s: &[u8], from: usize) -> Finish
     let walked = follow(s, from_sync(from, s.len()));
     match walked {
         Walked::Finished(finish) => finish,
+        // never met: that write would be past all writes
         Walked::Reached { write: _, left: _ } => Finish::Short,
     }
 }

@@ -1,6 +1,6 @@
 // The writes that a reading lists: one by its index, or all in one pass by a cursor.
 ghost use mathlib.Core.Path.{_≡_};
-ghost use Prim.Native.Nat.{_+_, _<_};
+ghost use Prim.Native.Nat.{_+_, _^_, _<_};
 ghost use Rattle.packets.specs.Reading.{nthWrite, writesFrom};
 ghost use Rattle.packets.specs.Cursor.{cursorAt, rest, stepOf, told, afterWrite};
 use crate::header::Effect;
@@ -92,7 +92,7 @@ impl Cursor {
 
 // The cursor after a write: nothing is to come after one that ends the reading or jumps.
 fn after_write(write: Write, left: usize, remaining: usize) -> Cursor
-    requires { ⌜ write .place + 4 < 18446744073709551616 ⌝ }
+    requires { ⌜ write .place + 4 < 2 ^ 64 ⌝ }
     ensures { λ r. ⌜ r ≡ afterWrite write left remaining ⌝ }
 {
     let effect = effect_of(write.register, write.word);
