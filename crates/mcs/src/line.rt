@@ -1,0 +1,183 @@
+// One line of the text: its characters, its sum, its record.
+ghost use mathlib.Core.Path.{_≡_};
+ghost use Prim.Native.Nat.{ℕ, _+_, _*_, _<_, _≤_};
+ghost use lib.ListN.{length};
+ghost use Rattle.mcs.specs.Reading.{typed, parsed};
+ghost use Rattle.mcs.specs.Place.{pairAt, pairsAt, endingAt, lineAt, Summed, ShapeIs, asLine, Sound};
+use crate::digit::digit;
+use crate::digit::pair;
+
+const LF: u8 = 0x0A;
+
+const CR: u8 = 0x0D;
+
+const COLON: u8 = 0x3A;
+
+// What pairs add to, or that one of them is none.
+pub(crate) enum Sum {
+    Of(u32),
+    Broken,
+}
+
+// A line whose characters are in order: its count, what its pairs add to, and the place after it.
+pub(crate) enum Shape {
+    Shaped {
+        count: usize,
+        sum: u32,
+        end: usize,
+    },
+    Broken,
+}
+
+// A line's record and the place after it, or the number of its refusal.
+pub(crate) enum Line {
+    Data {
+        address: u32,
+        count: usize,
+        end: usize,
+    },
+    Upper {
+        half: u32,
+        end: usize,
+    },
+    End {
+        end: usize,
+    },
+    Refused {
+        number: u32,
+    },
+}
+
+// What `count` pairs from `at` on add to.
+fn sum_pairs(text: &[u8], at: usize, count: usize) -> Sum
+    requires { ⌜ (at + 2 * count ≤ length (now text)) × (count ≤ 277) ⌝ }
+    ensures { λ r. ⌜ Summed (now (text .entry)) at count r ⌝ }
+{
+    let mut sum = 0;
+    let mut i = 0;
+    while i < count {
+        let high = digit(text[at + 2 * i]);
+        let low = digit(text[at + 2 * i + 1]);
+        if 15 < high {
+            return Sum::Broken;
+        }
+        if 15 < low {
+            return Sum::Broken;
+        }
+        sum += 16 * high + low;
+        i += 1;
+    }
+    Sum::Of(sum)
+}
+
+// The length of the line end at `at`: LF or CR LF, or 0 for none.
+fn ending(text: &[u8], at: usize) -> usize
+    requires { ⌜ at < length (now text) ⌝ }
+    ensures { λ r. ⌜ r ≡ endingAt (now (text .entry)) at ⌝ }
+{
+    if text[at] == LF {
+        return 1;
+    }
+    if text[at] != CR {
+        return 0;
+    }
+    if text.len() - at < 2 {
+        return 0;
+    }
+    if text[at + 1] == LF { 2 } else { 0 }
+}
+
+// The characters of the line at `at`.
+fn shape_of(text: &[u8], at: usize) -> Shape
+    requires { ⌜ at < length (now text) ⌝ }
+    ensures { λ r. ⌜ ShapeIs (now (text .entry)) at r ⌝ }
+{
+    let rest = text.len() - at;
+    if rest < 12 {
+        return Shape::Broken;
+    }
+    if text[at] != COLON {
+        return Shape::Broken;
+    }
+    let count = pair(text, at + 1) as usize;
+    if rest < 2 * count + 12 {
+        return Shape::Broken;
+    }
+    let summed = sum_pairs(text, at + 1, count + 5);
+    let Sum::Of(sum) = summed else {
+        return Shape::Broken;
+    };
+    let after = at + 2 * count + 11;
+    let ended = ending(text, after);
+    if ended == 0 {
+        return Shape::Broken;
+    }
+    Shape::Shaped {
+        count,
+        sum,
+        end: after + ended,
+    }
+}
+
+// The record of a line whose characters are in order.
+fn typed_line(text: &[u8], at: usize, count: usize, end: usize) -> Line
+    requires { ⌜ (at + 2 * count + 11 ≤ length (now text)) × (count ≡ pairAt (now text) (at + 1)) ⌝ }
+    ensures { λ r. ⌜ r ≡ asLine (typed (pairsAt (now (text .entry)) (at + 1) (count + 5))) end ⌝ }
+{
+    let kind = pair(text, at + 7);
+    let address = pair(text, at + 3) * 256 + pair(text, at + 5);
+    if kind == 0x00 {
+        if count == 0 {
+            return Line::Refused { number: 16 };
+        }
+        return Line::Data {
+            address,
+            count,
+            end,
+        };
+    }
+    if address != 0 {
+        return Line::Refused { number: 16 };
+    }
+    if kind == 0x01 {
+        if count != 0 {
+            return Line::Refused { number: 16 };
+        }
+        return Line::End { end };
+    }
+    if kind != 0x04 {
+        return Line::Refused { number: 16 };
+    }
+    if count != 2 {
+        return Line::Refused { number: 16 };
+    }
+    Line::Upper {
+        half: pair(text, at + 9) * 256 + pair(text, at + 11),
+        end,
+    }
+}
+
+// The line at `at`: questions 14, 15 and 16.
+pub(crate) fn parse(text: &[u8], at: usize) -> Line
+    requires { ⌜ at < length (now text) ⌝ }
+    ensures { λ r. ⌜ r ≡ asLine (parsed (lineAt (now (text .entry)) at)) (at + length (lineAt (now (text .entry)) at)) ⌝ }
+{
+    let shaped = shape_of(text, at);
+    let Shape::Shaped { count, sum, end } = shaped else {
+        return Line::Refused { number: 14 };
+    };
+    if sum % 256 != 0 {
+        return Line::Refused { number: 15 };
+    }
+    typed_line(text, at, count, end)
+}
+
+// The same of a line that is known to pass them: nothing is tested again.
+pub(crate) fn parse_sound(text: &[u8], at: usize) -> Line
+    requires { ⌜ (at < length (now text)) × Sound (lineAt (now text) at) ⌝ }
+    ensures { λ r. ⌜ r ≡ asLine (parsed (lineAt (now (text .entry)) at)) (at + length (lineAt (now (text .entry)) at)) ⌝ }
+{
+    let count = pair(text, at + 1) as usize;
+    let after = at + 2 * count + 11;
+    typed_line(text, at, count, after + ending(text, after))
+}

@@ -1,0 +1,160 @@
+// Reading a whole text, in two passes: the first asks every question, the second writes the image.
+ghost use mathlib.Core.Path.{_≡_};
+ghost use mathlib.Core.List.{_++_};
+ghost use Prim.Native.Nat.{ℕ, _+_, _*_, _<_, _≤_};
+ghost use lib.ListN.{length, take, drop};
+ghost use Rattle.mcs.specs.Reading.{follows, readText};
+ghost use Rattle.mcs.specs.Answers.{readAnswer, readOutput};
+ghost use Rattle.mcs.specs.Place.{ArePairs, pairsAt, sizeOf, Fits};
+use crate::digit::pair;
+use crate::line::Line;
+use crate::line::parse;
+use crate::line::parse_sound;
+
+// How many bytes the text holds, or a refusal. `length` bytes stand at the front of the buffer.
+pub enum ReadAnswer {
+    Read {
+        length: usize,
+    },
+    Refused {
+        number: u32,
+        place: usize,
+    },
+}
+
+// How many bytes the text holds, or the refusal of a question up to 18.
+pub(crate) enum Size {
+    Total(usize),
+    Refused {
+        number: u32,
+        place: usize,
+    },
+}
+
+// Addresses have an upper half and a lower one.
+const SEGMENT: u64 = 65_536;
+
+// The address rule, in numbers wide enough that nothing wraps.
+fn follows_on(half: u32, address: u32, next: usize, count: usize) -> bool
+    requires { ⌜ count ≤ 277 ⌝ }
+    ensures { λ r. ⌜ r ≡ follows half address next count ⌝ }
+{
+    let start = half as u64 * SEGMENT + address as u64;
+    if start != next as u64 {
+        return false;
+    }
+    address as u64 + count as u64 <= SEGMENT
+}
+
+// The first pass. It writes nothing.
+fn size_of(text: &[u8]) -> Size
+    ensures { λ r. ⌜ r ≡ sizeOf (readText (now (text .entry))) ⌝ }
+{
+    let mut at = 0;
+    let mut upper = 0;
+    let mut next = 0;
+    while at < text.len() {
+        let read = parse(text, at);
+        match read {
+            Line::Data {
+                address,
+                count,
+                end,
+            } => {
+                if !follows_on(upper, address, next, count) {
+                    return Size::Refused {
+                        number: 17,
+                        place: at,
+                    };
+                }
+                next += count;
+                at = end;
+            }
+            Line::Upper { half, end } => {
+                upper = half;
+                at = end;
+            }
+            Line::End { end } => {
+                if end < text.len() {
+                    return Size::Refused {
+                        number: 18,
+                        place: end,
+                    };
+                }
+                return Size::Total(next);
+            }
+            Line::Refused { number } => {
+                return Size::Refused { number, place: at };
+            }
+        }
+    }
+    Size::Refused {
+        number: 18,
+        place: at,
+    }
+}
+
+// The bytes that `count` pairs from `from` on make, at `to`.
+fn decode(text: &[u8], from: usize, out: &mut [u8], to: usize, count: usize)
+    requires { ⌜ (from + 2 * count ≤ length (now text)) × (to + count ≤ length (now out)) × ArePairs (now text) from count ⌝ }
+    ensures { λ r. ⌜ now (out .exit) ≡ take to (now (out .entry)) ++ (pairsAt (now (text .entry)) from count ++ drop (to + count) (now (out .entry))) ⌝ }
+{
+    let mut i = 0;
+    while i < count {
+        out[to + i] = (pair(text, from + 2 * i) % 256) as u8;
+        i += 1;
+    }
+}
+
+// The second pass, over a text that holds an image for which there is room.
+fn fill(text: &[u8], out: &mut [u8])
+    requires { ⌜ Fits (readText (now text)) (length (now out)) ⌝ }
+    ensures { λ r. ⌜ now (out .exit) ≡ readOutput (now (text .entry)) (now (out .entry)) ⌝ }
+{
+    let mut at = 0;
+    let mut next = 0;
+    while at < text.len() {
+        let read = parse_sound(text, at);
+        match read {
+            Line::Data {
+                address: _,
+                count,
+                end,
+            } => {
+                decode(text, at + 9, out, next, count);
+                next += count;
+                at = end;
+            }
+            Line::Upper { half: _, end } => {
+                at = end;
+            }
+            Line::End { end } => {
+                at = end;
+            }
+            Line::Refused { number: _ } => {
+                return;
+            }
+        }
+    }
+}
+
+// Reads a text into a buffer. A refusal leaves the buffer as it was.
+pub fn read(text: &[u8], out: &mut [u8]) -> ReadAnswer
+    ensures answer { λ r. ⌜ r ≡ readAnswer (now (text .entry)) (now (out .entry)) ⌝ }
+    ensures output { λ r. ⌜ now (out .exit) ≡ readOutput (now (text .entry)) (now (out .entry)) ⌝ }
+{
+    let sized = size_of(text);
+    match sized {
+        Size::Total(length) => {
+            if out.len() < length {
+                return ReadAnswer::Refused {
+                    number: 19,
+                    place: 0,
+                };
+            }
+            fill(text, out);
+            ReadAnswer::Read { length }
+        }
+        Size::Refused { number, place } => ReadAnswer::Refused { number, place },
+    }
+}
