@@ -1,1 +1,5 @@
+pub mod TableLaws
 pub mod LineLaws
+pub mod PairLaws
+pub mod ShapeLaws
+pub mod ReadingLaws

@@ -14,6 +14,19 @@ use Rattle.mcs.specs.Text.{LF, CR, COLON, digits}
 use Rattle.mcs.specs.Reading.{ask, Spelled, placeIn, digitOf, isDigit, isEnding, Pairs, Broken, onto, spelledBy, lineSpells, before, linesOf}
 use Rattle.mcs.specs.Place.{pairAt, IsPair, ArePairs, pairsAt, endingOf, endingAt, firstLine, lineAt}
 
+place-most : (ds : List ℕ) (c : ℕ) → placeIn ds c ≤ length ds
+unfolding placeIn
+place-most [] c = omega arith
+place-most (d ∷ ds) c = go (eqb c d) refl (place-most ds c)
+  where
+    go : (b : Bool) → eqb c d ≡ b → placeIn ds c ≤ length ds → placeIn (d ∷ ds) c ≤ length (d ∷ ds)
+    go true e ih = rw (e, placeIn) (omega arith)
+    go false e ih = rw (e, placeIn) (omega arith)
+
+pub digit-most : (c : ℕ) → digitOf c ≤ 16
+unfolding digitOf digits
+digit-most c = place-most digits c
+
 false-of : (b : Bool) → (b ≡ true → ⊥) → b ≡ false
 false-of true h = absurd (h refl)
 false-of false h = refl
@@ -68,19 +81,19 @@ one-line : (c : ℕ) → eqb c LF ≡ false → firstLine (c ∷ []) ≡ c ∷ [
 unfolding firstLine
 one-line c e = rw (e, firstLine)
 
-ending-lf : (a b : ℕ) → eqb a LF ≡ true → endingOf a b ≡ 1
+pub ending-lf : (a b : ℕ) → eqb a LF ≡ true → endingOf a b ≡ 1
 unfolding endingOf
 ending-lf a b e = rw (e, endingOf)
 
-ending-crlf : (a b : ℕ) → eqb a LF ≡ false → eqb a CR ≡ true → eqb b LF ≡ true → endingOf a b ≡ 2
+pub ending-crlf : (a b : ℕ) → eqb a LF ≡ false → eqb a CR ≡ true → eqb b LF ≡ true → endingOf a b ≡ 2
 unfolding endingOf
 ending-crlf a b e f g = rw (e, f, g, endingOf)
 
-ending-cr : (a b : ℕ) → eqb a LF ≡ false → eqb a CR ≡ true → eqb b LF ≡ false → endingOf a b ≡ 0
+pub ending-cr : (a b : ℕ) → eqb a LF ≡ false → eqb a CR ≡ true → eqb b LF ≡ false → endingOf a b ≡ 0
 unfolding endingOf
 ending-cr a b e f g = rw (e, f, g, endingOf)
 
-ending-none : (a b : ℕ) → eqb a LF ≡ false → eqb a CR ≡ false → endingOf a b ≡ 0
+pub ending-none : (a b : ℕ) → eqb a LF ≡ false → eqb a CR ≡ false → endingOf a b ≡ 0
 unfolding endingOf
 ending-none a b e f = rw (e, f, endingOf)
 

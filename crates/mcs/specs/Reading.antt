@@ -91,18 +91,22 @@ pub data Parsed : Type 0 where
   Is : Record → Parsed
   Refuses : (number : ℕ) → Parsed
 
--- Type, its count, and 0000 address for types 01 and 04? No: 16. Data records have 1 to 255 bytes; type 04 carries 2.
+-- Records have types 00, 01 and 04.
+unfoldable pub byType {ℓ} : {A : Type ℓ} → ℕ → A → A → A → A → A
+byType type data′ end upper other =
+    elim (eqb type 0x00) [
+      | true ↦ data′
+      | false ↦ elim (eqb type 0x01) [ true ↦ end | false ↦ elim (eqb type 0x04) [ true ↦ upper | false ↦ other ] ]
+    ]
+
+-- Type, its count, and 0000 address for types 01 and 04? No: 16. Data records have 1 to 255 bytes, and type 04 carries 2.
 unfoldable pub typed : List ℕ → Parsed
 typed pairs =
-    elim (eqb (typeOf pairs) 0x00) [
-      | true ↦ ask (leb 1 (countOf pairs)) (Refuses 16) (Is (Data (addressOf pairs) (take (countOf pairs) (drop 4 pairs))))
-      | false ↦
-          ask (eqb (addressOf pairs) 0) (Refuses 16)
-          (elim (eqb (typeOf pairs) 0x01) [
-            | true ↦ ask (eqb (countOf pairs) 0) (Refuses 16) (Is End)
-            | false ↦ ask (eqb (typeOf pairs) 0x04) (Refuses 16) (ask (eqb (countOf pairs) 2) (Refuses 16) (Is (Upper (twoAt pairs 4))))
-          ])
-    ]
+    byType (typeOf pairs)
+    (ask (leb 1 (countOf pairs)) (Refuses 16) (Is (Data (addressOf pairs) (take (countOf pairs) (drop 4 pairs)))))
+    (ask (eqb (countOf pairs) 0) (Refuses 16) (ask (eqb (addressOf pairs) 0) (Refuses 16) (Is End)))
+    (ask (eqb (countOf pairs) 2) (Refuses 16) (ask (eqb (addressOf pairs) 0) (Refuses 16) (Is (Upper (twoAt pairs 4)))))
+    (Refuses 16)
 
 -- Question 11 but for the address rule. As many pairs as the count says: four before the data and the sum after them, so at least five.
 unfoldable pub parsed : List ℕ → Parsed

@@ -73,7 +73,8 @@ fn sum_pairs(text: &[u8], at: usize, count: usize) -> Sum
 // The length of the line end at `at`: LF or CR LF, or 0 for none.
 fn ending(text: &[u8], at: usize) -> usize
     requires { ⌜ at < length (now text) ⌝ }
-    ensures { λ r. ⌜ r ≡ endingAt (now (text .entry)) at ⌝ }
+    ensures value { λ r. ⌜ r ≡ endingAt (now (text .entry)) at ⌝ }
+    ensures range { λ r. ⌜ r ≤ 2 ⌝ }
 {
     if text[at] == LF {
         return 1;
@@ -136,11 +137,11 @@ fn typed_line(text: &[u8], at: usize, count: usize, end: usize) -> Line
             end,
         };
     }
-    if address != 0 {
-        return Line::Refused { number: 16 };
-    }
     if kind == 0x01 {
         if count != 0 {
+            return Line::Refused { number: 16 };
+        }
+        if address != 0 {
             return Line::Refused { number: 16 };
         }
         return Line::End { end };
@@ -149,6 +150,9 @@ fn typed_line(text: &[u8], at: usize, count: usize, end: usize) -> Line
         return Line::Refused { number: 16 };
     }
     if count != 2 {
+        return Line::Refused { number: 16 };
+    }
+    if address != 0 {
         return Line::Refused { number: 16 };
     }
     Line::Upper {

@@ -1,8 +1,8 @@
 // Reading a whole text, in two passes: the first asks every question, the second writes the image.
 ghost use mathlib.Core.Path.{_≡_};
-ghost use mathlib.Core.List.{_++_};
-ghost use Prim.Native.Nat.{ℕ, _+_, _*_, _<_, _≤_};
-ghost use lib.ListN.{length, take, drop};
+ghost use Prim.Native.Nat.{_+_, _*_, _^_, _<_, _≤_};
+ghost use lib.ListN.{length};
+ghost use lib.Seq.{paste};
 ghost use Rattle.mcs.specs.Reading.{follows, readText};
 ghost use Rattle.mcs.specs.Answers.{readAnswer, readOutput};
 ghost use Rattle.mcs.specs.Place.{ArePairs, pairsAt, sizeOf, Fits};
@@ -36,7 +36,7 @@ const SEGMENT: u64 = 65_536;
 
 // The address rule, in numbers wide enough that nothing wraps.
 fn follows_on(half: u32, address: u32, next: usize, count: usize) -> bool
-    requires { ⌜ count ≤ 277 ⌝ }
+    requires { ⌜ count < 2 ^ 63 ⌝ }
     ensures { λ r. ⌜ r ≡ follows half address next count ⌝ }
 {
     let start = half as u64 * SEGMENT + address as u64;
@@ -97,7 +97,7 @@ fn size_of(text: &[u8]) -> Size
 // The bytes that `count` pairs from `from` on make, at `to`.
 fn decode(text: &[u8], from: usize, out: &mut [u8], to: usize, count: usize)
     requires { ⌜ (from + 2 * count ≤ length (now text)) × (to + count ≤ length (now out)) × ArePairs (now text) from count ⌝ }
-    ensures { λ r. ⌜ now (out .exit) ≡ take to (now (out .entry)) ++ (pairsAt (now (text .entry)) from count ++ drop (to + count) (now (out .entry))) ⌝ }
+    ensures { λ r. ⌜ now (out .exit) ≡ paste (now (out .entry)) to (pairsAt (now (text .entry)) from count) count ⌝ }
 {
     let mut i = 0;
     while i < count {

@@ -1,0 +1,33 @@
+-- A rule of a table, proved at all of its entries by one test that is computed, one entry after the other.
+use Prim.Native.Nat.{ℕ, zero, suc, _+_, _<_}
+use mathlib.Core.Path.{_≡_, refl}
+use mathlib.Core.Bool.{Bool, true, false, _&&_}
+use mathlib.Core.List.{List, [], _∷_}
+use native.Mathlib.Nat.{add-zero}
+use native.Mathlib.Omega.{arith}
+use borrow.Author.Tests.{eqb-true}
+use lib.Dec.{T, eqb}
+use lib.ListN.{length, getD}
+
+-- each entry, from place i on, is what the rule says of its place
+abbrev pub agrees : (ℕ → ℕ) → ℕ → List ℕ → Bool
+agrees rule i [] = true
+agrees rule i (x ∷ xs) = eqb x (rule i) && agrees rule (suc i) xs
+
+first : (a b : Bool) → T (a && b) → a ≡ true
+first true b t = refl
+first false b t = absurd t
+
+rest : (a b : Bool) → T (a && b) → T b
+rest true b t = t
+rest false b t = absurd t
+
+entry-from : (rule : ℕ → ℕ) (xs : List ℕ) (i : ℕ) → T (agrees rule i xs) → (k : ℕ) → k < length xs → getD xs k 0 ≡ rule (i + k)
+entry-from rule [] i t k h = absurd (omega arith)
+entry-from rule (x ∷ xs) i t zero h = rw add-zero (eqb-true x (rule i) (first (eqb x (rule i)) (agrees rule (suc i) xs) t))
+entry-from rule (x ∷ xs) i t (suc k) h =
+    let e : suc i + k ≡ i + suc k = omega arith in
+    rw e at (entry-from rule xs (suc i) (rest (eqb x (rule i)) (agrees rule (suc i) xs) t) k (omega arith))
+
+pub entry : (rule : ℕ → ℕ) (xs : List ℕ) → T (agrees rule 0 xs) → (k : ℕ) → k < length xs → getD xs k 0 ≡ rule k
+entry rule xs t k h = let e : 0 + k ≡ k = omega arith in rw e at (entry-from rule xs 0 t k h)

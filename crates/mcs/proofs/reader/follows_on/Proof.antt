@@ -1,0 +1,28 @@
+-- `reader::follows_on` meets its contract.
+use mathlib.Core.Path.{refl}
+use Rattle.mcs.specs.Reading.{ask, follows}
+use borrow.Author.Tests.{eq-eqb, ne-eqb}
+use native.Mathlib.Omega.{arith}
+use borrow.Author.Needs.{needs}
+use Rattle.mcs.proofs.reader.follows_on.Statement.{statement}
+use Rattle.mcs.proofs.reader.follows_on.Tie as tie
+
+mul-start : tie.Need-mul-start
+mul-start c = search needs
+
+add-start : tie.Need-add-start
+add-start c = search needs
+
+returns : tie.Need-returns
+unfolding follows ask
+returns c = rw (ne-eqb _ _ (c .if1 .taken)) refl
+
+add-result : tie.Need-add-result
+add-result c = search needs
+
+returns-2 : tie.Need-returns-2
+unfolding follows ask
+returns-2 c = rw (eq-eqb _ _ (c .if1 .left)) refl
+
+pub follows-on-spec : {M : Type 1} → statement M
+follows-on-spec = tie.close (tie.spec mul-start add-start returns add-result returns-2)
