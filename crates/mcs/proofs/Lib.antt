@@ -3,3 +3,5 @@ pub mod LineLaws
 pub mod PairLaws
 pub mod ShapeLaws
 pub mod ReadingLaws
+pub mod FillLaws
+pub mod AnswerLaws

@@ -149,6 +149,7 @@ view (a ∷ []) = go (eqb a LF) (eqb a CR) refl refl
   where
     alone : eqb a LF ≡ false → endingAt (a ∷ []) 0 ≡ 0 → View (a ∷ [])
     alone e n = broken (λ h. no-digit (h .1)) n (rw (one-line a e) (spelled-one a (no-lf a e)))
+
     go : (p q : Bool) → eqb a LF ≡ p → eqb a CR ≡ q → View (a ∷ [])
     go true q e f = at-lf a [] e
     go false true e f = alone e (ending-cr _ _ e f refl)
@@ -162,10 +163,13 @@ view (a ∷ b ∷ t) = go (eqb a LF) (eqb a CR) (eqb b LF) refl refl refl
         broken (λ h. let k : 16 ≤ digitOf a = ltb-false _ _ d in omega arith) n (rw l (spelled-other a b (firstLine t) i (no-first (isDigit a) (isDigit b) d)))
     pair true false d e l i n =
         broken (λ h. let k : 16 ≤ digitOf b = ltb-false _ _ e in omega arith) n (rw l (spelled-other a b (firstLine t) i (no-second (isDigit a) (isDigit b) e)))
+
     both : eqb a LF ≡ false → eqb b LF ≡ false → firstLine (a ∷ b ∷ t) ≡ a ∷ b ∷ firstLine t
     both e g = first-on a (b ∷ t) e ∙ ap (λ (l : List ℕ). a ∷ l) (first-on b t g)
+
     lf : eqb a LF ≡ false → eqb b LF ≡ true → firstLine (a ∷ b ∷ t) ≡ a ∷ b ∷ []
     lf e g = first-on a (b ∷ t) e ∙ ap (λ (l : List ℕ). a ∷ l) (first-lf b t g)
+
     go : (p q r : Bool) → eqb a LF ≡ p → eqb a CR ≡ q → eqb b LF ≡ r → View (a ∷ b ∷ t)
     go true q r e f g = at-lf a (b ∷ t) e
     go false true true e f g =
@@ -287,6 +291,7 @@ module _ (text : List ℕ) where
     where
       here : endingAt text (p + 2 * 0) ≡ endingAt (drop p text) 0
       here = let z : p + 2 * 0 ≡ p = omega arith in rw z (sym (ending-drop p))
+
       go : View (drop p text) → (spelledAt p ≡ Pairs []) × (length (firstLine (drop p text)) ≡ 2 * 0 + endingAt text (p + 2 * 0))
       go (ended n m s l) = (s, omega (arith, here))
       go (paired q z s l) = absurd (omega (arith, here))
@@ -295,8 +300,10 @@ module _ (text : List ℕ) where
     where
       on : p + 2 + 2 * k ≡ p + 2 * suc k
       on = omega arith
+
       first : IsPair (drop p text) 0
       first = pair-drop p (rw add-zero at (h 0 (omega arith)))
+
       go : View (drop p text) →
           (spelledAt (p + 2) ≡ Pairs (pairsAt text (p + 2) k)) × (length (firstLine (drop (p + 2) text)) ≡ 2 * k + endingAt text (p + 2 + 2 * k)) →
           (spelledAt p ≡ Pairs (pairAt text p ∷ pairsAt text (p + 2) k)) × (length (firstLine (drop p text)) ≡ 2 * suc k + endingAt text (p + 2 * suc k))
@@ -364,12 +371,11 @@ module _ (text : List ℕ) where
       rw (cut at h)
       (lines-first (getD text at 0) (drop (at + 1) text)
       ∙ ap (λ (l : List ℕ). firstLine (getD text at 0 ∷ drop (at + 1) text) ∷ linesOf l)
-        (ap (λ (l : List ℕ). drop (length (firstLine (getD text at 0 ∷ drop (at + 1) text))) l) (sym (cut at h))
-        ∙ drop-drop (length (firstLine (getD text at 0 ∷ drop (at + 1) text))) at text))
+      (ap (λ (l : List ℕ). drop (length (firstLine (getD text at 0 ∷ drop (at + 1) text))) l) (sym (cut at h))
+      ∙ drop-drop (length (firstLine (getD text at 0 ∷ drop (at + 1) text))) at text))
 
   pub line-long : (at : ℕ) → at < length text → (1 ≤ length (lineAt text at)) × (at + length (lineAt text at) ≤ length text)
   line-long at h =
       let a : 1 ≤ length (lineAt text at) = rw (cut at h) (first-some (getD text at 0) (drop (at + 1) text)) in
       let b : length (lineAt text at) ≤ length text - at = simp length-drop at (first-length (drop at text)) in
       (a, omega arith)
-

@@ -6,14 +6,15 @@ use mathlib.Core.List.{List, [], _∷_, _++_, append-assoc, append-nil}
 use native.Mathlib.Omega.{arith}
 use borrow.Author.Tests.{eqb-true, eqb-false, leb-true, leb-false}
 use lib.Dec.{eqb, leb}
-use lib.ListN.{length, getD, take, drop, length-drop, drop-of-length-le}
+use lib.ListN.{length, getD, length-append, take, drop, length-drop, drop-of-length-le}
 use lib.Seq.{drop-cons}
 use Rattle.mcs.specs.Text.{Data, Upper, End}
-use Rattle.mcs.specs.Reading.{ask, countOf, addressOf, typeOf, Parsed, Is, Refuses, typed, parsed, byParsed, follows, linesOf, none, Reading, Holds, Refused, readFrom}
-use Rattle.mcs.specs.Place.{pairAt, IsPair, ArePairs, pairsAt, lineAt, Sound, Orderly, asLine}
+use Rattle.mcs.specs.Reading.{ask, countOf, twoAt, addressOf, typeOf, Parsed, Is, Refuses, typed, parsed, byParsed, follows, linesOf, none, Reading, Holds, Refused, readFrom, readText}
+use Rattle.mcs.specs.Place.{pairAt, ArePairs, pairsAt, endingAt, lineAt, Sound, Orderly, asLine}
+use Rattle.mcs.specs.declared.line.Line.{Line}
 use Rattle.mcs.specs.declared.line.Line.the-variants.{Data as DataLine, Upper as UpperLine, End as EndLine, Refused as LineRefused}
 use Rattle.mcs.proofs.LineLaws.{line-first, line-long}
-use Rattle.mcs.proofs.PairLaws.{typed-empty, typed-end-count, typed-end-address, typed-end, typed-other, typed-upper-count, typed-upper-address, typed-upper, typed-data, linePairs, count-is, data-is, long-is}
+use Rattle.mcs.proofs.PairLaws.{length-pairs, typed-empty, typed-end-count, typed-end-address, typed-end, typed-other, typed-upper-count, typed-upper-address, typed-upper, typed-data, linePairs, count-is, data-is, long-is}
 use Rattle.mcs.proofs.ShapeLaws.{Formed, afterPairs, orderly, sound-formed, sound-typed}
 
 -- One line more.
@@ -23,27 +24,27 @@ unfolding readFrom
 read-none place half image = refl
 
 module _ (line : List ℕ) (lines : List (List ℕ)) (place half : ℕ) (image : List ℕ) where
-  read-refused : (number : ℕ) → parsed line ≡ Refuses number → readFrom (line ∷ lines) place half image ≡ Refused number place
+  pub read-refused : (number : ℕ) → parsed line ≡ Refuses number → readFrom (line ∷ lines) place half image ≡ Refused number place
   unfolding readFrom byParsed
   read-refused number e = rw e refl
 
-  read-apart : (address : ℕ) (bytes : List ℕ) → parsed line ≡ Is (Data address bytes) → follows half address (length image) (length bytes) ≡ false → readFrom (line ∷ lines) place half image ≡ Refused 17 place
+  pub read-apart : (address : ℕ) (bytes : List ℕ) → parsed line ≡ Is (Data address bytes) → follows half address (length image) (length bytes) ≡ false → readFrom (line ∷ lines) place half image ≡ Refused 17 place
   unfolding readFrom byParsed ask
   read-apart address bytes e f = rw e (rw f refl)
 
-  read-data : (address : ℕ) (bytes : List ℕ) → parsed line ≡ Is (Data address bytes) → follows half address (length image) (length bytes) ≡ true → readFrom (line ∷ lines) place half image ≡ readFrom lines (place + length line) half (image ++ bytes)
+  pub read-data : (address : ℕ) (bytes : List ℕ) → parsed line ≡ Is (Data address bytes) → follows half address (length image) (length bytes) ≡ true → readFrom (line ∷ lines) place half image ≡ readFrom lines (place + length line) half (image ++ bytes)
   unfolding readFrom byParsed ask
   read-data address bytes e f = rw e (rw f refl)
 
-  read-upper : (upper : ℕ) → parsed line ≡ Is (Upper upper) → readFrom (line ∷ lines) place half image ≡ readFrom lines (place + length line) upper image
+  pub read-upper : (upper : ℕ) → parsed line ≡ Is (Upper upper) → readFrom (line ∷ lines) place half image ≡ readFrom lines (place + length line) upper image
   unfolding readFrom byParsed
   read-upper upper e = rw e refl
 
-  read-end : parsed line ≡ Is End → none lines ≡ true → readFrom (line ∷ lines) place half image ≡ Holds image
+  pub read-end : parsed line ≡ Is End → none lines ≡ true → readFrom (line ∷ lines) place half image ≡ Holds image
   unfolding readFrom byParsed ask
   read-end e f = rw e (rw f refl)
 
-  read-more : parsed line ≡ Is End → none lines ≡ false → readFrom (line ∷ lines) place half image ≡ Refused 18 (place + length line)
+  pub read-more : parsed line ≡ Is End → none lines ≡ false → readFrom (line ∷ lines) place half image ≡ Refused 18 (place + length line)
   unfolding readFrom byParsed ask
   read-more e f = rw e (rw f refl)
 
@@ -123,3 +124,116 @@ line-refused (Refuses n) e number h = let q : n ≡ number = cc in rw q refl
 line-refused (Is (Data a bytes)) e number h = let z : _≡_ {A = ℕ} 0 1 = cc in absurd (omega arith)
 line-refused (Is (Upper half)) e number h = let z : _≡_ {A = ℕ} 0 1 = cc in absurd (omega arith)
 line-refused (Is End) e number h = let z : _≡_ {A = ℕ} 0 1 = cc in absurd (omega arith)
+
+-- A data record's bytes, by their place.
+
+not-data : (p : Parsed) (address : ℕ) (bytes : List ℕ) (number : ℕ) → p ≡ Refuses number → p ≡ Is (Data address bytes) → ⊥
+not-data p address bytes number e f = let z : _≡_ {A = ℕ} 0 1 = cc in omega arith
+
+data-bytes : (pairs : List ℕ) (address : ℕ) (bytes : List ℕ) → typed pairs ≡ Is (Data address bytes) → bytes ≡ take (countOf pairs) (drop 4 pairs)
+data-bytes pairs address bytes e = type (eqb (typeOf pairs) 0) (eqb (typeOf pairs) 1) (eqb (typeOf pairs) 4) refl refl refl
+  where
+    no : (n : ℕ) → typed pairs ≡ Refuses n → bytes ≡ take (countOf pairs) (drop 4 pairs)
+    no n f = absurd (not-data (typed pairs) address bytes n f e)
+
+    some : (p : Bool) → eqb (countOf pairs) 0 ≡ p → typeOf pairs ≡ 0 → bytes ≡ take (countOf pairs) (drop 4 pairs)
+    some true n t = no 16 (typed-empty pairs t (eqb-true _ _ n))
+    some false n t =
+        let f : Is (Data (addressOf pairs) (take (countOf pairs) (drop 4 pairs))) ≡ Is (Data address bytes) = sym (typed-data pairs t (eqb-false _ _ n)) ∙ e in cc
+
+    end : (p q : Bool) → eqb (countOf pairs) 0 ≡ p → eqb (addressOf pairs) 0 ≡ q → typeOf pairs ≡ 1 → bytes ≡ take (countOf pairs) (drop 4 pairs)
+    end false q n a t = no 16 (typed-end-count pairs t (eqb-false _ _ n))
+    end true false n a t = no 16 (typed-end-address pairs t (eqb-true _ _ n) (eqb-false _ _ a))
+    end true true n a t =
+        let f : Is End ≡ Is (Data address bytes) = sym (typed-end pairs t (eqb-true _ _ n) (eqb-true _ _ a)) ∙ e in
+        let z : _≡_ {A = ℕ} 0 1 = cc in absurd (omega arith)
+
+    upper : (p q : Bool) → eqb (countOf pairs) 2 ≡ p → eqb (addressOf pairs) 0 ≡ q → typeOf pairs ≡ 4 → bytes ≡ take (countOf pairs) (drop 4 pairs)
+    upper false q n a t = no 16 (typed-upper-count pairs t (eqb-false _ _ n))
+    upper true false n a t = no 16 (typed-upper-address pairs t (eqb-true _ _ n) (eqb-false _ _ a))
+    upper true true n a t =
+        let f : Is (Upper (twoAt pairs 4)) ≡ Is (Data address bytes) = sym (typed-upper pairs t (eqb-true _ _ n) (eqb-true _ _ a)) ∙ e in
+        let z : _≡_ {A = ℕ} 0 1 = cc in absurd (omega arith)
+
+    type : (p q r : Bool) → eqb (typeOf pairs) 0 ≡ p → eqb (typeOf pairs) 1 ≡ q → eqb (typeOf pairs) 4 ≡ r → bytes ≡ take (countOf pairs) (drop 4 pairs)
+    type true q r t u v = some (eqb (countOf pairs) 0) refl (eqb-true _ _ t)
+    type false true r t u v = end (eqb (countOf pairs) 0) (eqb (addressOf pairs) 0) refl refl (eqb-true _ _ u)
+    type false false true t u v = upper (eqb (countOf pairs) 2) (eqb (addressOf pairs) 0) refl refl (eqb-true _ _ v)
+    type false false false t u v = no 16 (typed-other pairs (eqb-false _ _ t) (eqb-false _ _ u) (eqb-false _ _ v))
+
+pub record DataAt (text : List ℕ) (at : ℕ) (bytes : List ℕ) : Type 0 where
+  pub pairs : ArePairs text (at + 9) (length bytes)
+  pub are : bytes ≡ pairsAt text (at + 9) (length bytes)
+  pub within : at + 2 * length bytes + 12 ≤ at + length (lineAt text at)
+
+pub data-at : (text : List ℕ) (at address : ℕ) (bytes : List ℕ) → at < length text → parsed (lineAt text at) ≡ Is (Data address bytes) → DataAt text at bytes
+data-at text at address bytes inside e =
+    let sound : Sound (lineAt text at) = λ n h. not-data (parsed (lineAt text at)) address bytes n h e in
+    let f : Formed text at = sound-formed text at inside sound in
+    let count = pairAt text (at + 1) in
+    let o : Orderly text at count (afterPairs text at + endingAt text (afterPairs text at)) = orderly text at inside f in
+    let t : typed (linePairs text at count) ≡ Is (Data address bytes) = sym (sound-typed text at count (afterPairs text at + endingAt text (afterPairs text at)) o sound) ∙ e in
+    let b : bytes ≡ take (countOf (linePairs text at count)) (drop 4 (linePairs text at count)) = data-bytes (linePairs text at count) address bytes t in
+    let g : bytes ≡ pairsAt text (at + 9) count = b ∙ rw (count-is text at count) (data-is text at count) in
+    let l : length bytes ≡ count = ap (λ (x : List ℕ). length x) g ∙ length-pairs text count (at + 9) in
+    let ends : afterPairs text at + endingAt text (afterPairs text at) ≡ at + length (lineAt text at) = o .ends in
+    let one : 1 ≤ endingAt text (afterPairs text at) = f .ending in
+    record { pairs = rw l (shifted text at count (f .pairs)); are = rw l g; within = omega arith }
+  where
+    shifted : (text : List ℕ) (at count : ℕ) → ArePairs text (at + 1) (count + 5) → ArePairs text (at + 9) count
+    shifted text at count h j k = let e : at + 1 + 2 * (j + 4) ≡ at + 9 + 2 * j = omega arith in rw e at (h (j + 4) (omega arith))
+
+-- A pass over the text: how far it has come, and what the line before it adds.
+
+-- the lines before a place hold an image of so many bytes, and the text reads as from there on
+abbrev pub Reached : List ℕ → ℕ → ℕ → ℕ → Type 0
+Reached text at half next = (image : List ℕ) × ((length image ≡ next) × (readAt text at half image ≡ readText text))
+
+module _ (text : List ℕ) (at half next : ℕ) (inside : at < length text) (reached : Reached text at half next)
+    (line : Line) (is : line ≡ asLine (parsed (lineAt text at)) (after text at)) where
+  pub pass-refused : (number : ℕ) → line ≡ LineRefused number → readText text ≡ Refused number at
+  pass-refused number e =
+      sym (reached .1 .1) ∙ at-refused text at half (reached .0) inside number (line-refused (parsed (lineAt text at)) (after text at) number (sym is ∙ e))
+
+  pub pass-upper : (upper end : ℕ) → line ≡ UpperLine upper end → Reached text end upper next × (at < end) × (end ≤ length text)
+  pass-upper upper end e =
+      let l : (parsed (lineAt text at) ≡ Is (Upper upper)) × (after text at ≡ end) = line-upper (parsed (lineAt text at)) (after text at) upper end (sym is ∙ e) in
+      let b : (1 ≤ length (lineAt text at)) × (after text at ≤ length text) = line-long text at inside in
+      let r : Reached text end upper next = (reached .0, (reached .1 .0, rw (l .1) at (sym (at-upper text at half (reached .0) inside upper (l .0)) ∙ reached .1 .1))) in
+      (r, omega arith, omega arith)
+
+  pub pass-end : (end : ℕ) → line ≡ EndLine end → length text ≤ end → (image : List ℕ) × ((length image ≡ next) × (readText text ≡ Holds image))
+  pass-end end e h =
+      let l : (parsed (lineAt text at) ≡ Is End) × (after text at ≡ end) = line-end (parsed (lineAt text at)) (after text at) end (sym is ∙ e) in
+      (reached .0, (reached .1 .0, sym (reached .1 .1) ∙ at-end text at half (reached .0) inside (l .0) (omega arith)))
+
+  pub pass-more : (end : ℕ) → line ≡ EndLine end → end < length text → readText text ≡ Refused 18 end
+  pass-more end e h =
+      let l : (parsed (lineAt text at) ≡ Is End) × (after text at ≡ end) = line-end (parsed (lineAt text at)) (after text at) end (sym is ∙ e) in
+      rw (l .1) at (sym (reached .1 .1) ∙ at-more text at half (reached .0) inside (l .0) (omega arith))
+
+  module _ (address count end : ℕ) (e : line ≡ DataLine address count end) where
+    pub pass-bytes : (bytes : List ℕ) × ((parsed (lineAt text at) ≡ Is (Data address bytes)) × (length bytes ≡ count) × (after text at ≡ end))
+    pass-bytes = line-data (parsed (lineAt text at)) (after text at) address count end (sym is ∙ e)
+
+    pub pass-apart : follows half address next count ≡ false → readText text ≡ Refused 17 at
+    pass-apart f =
+        sym (reached .1 .1) ∙ at-apart text at half (reached .0) inside address (pass-bytes .0) (pass-bytes .1 .0) (rw (reached .1 .0, pass-bytes .1 .1) f)
+
+    pub pass-data : follows half address next count ≡ true → Reached text end half (next + count)
+    pass-data f = (
+      reached .0 ++ pass-bytes .0,
+      (
+        length-append (reached .0) (pass-bytes .0) ∙ ap₂ _+_ (reached .1 .0) (pass-bytes .1 .1),
+        rw (pass-bytes .1 .2) at (sym (at-data text at half (reached .0) inside address (pass-bytes .0) (pass-bytes .1 .0) (rw (reached .1 .0, pass-bytes .1 .1) f)) ∙ reached .1 .1),
+      ),
+    )
+
+    pub pass-long : (at + 2 * count + 12 ≤ end) × (end ≤ length text)
+    pass-long =
+        let d : DataAt text at (pass-bytes .0) = data-at text at address (pass-bytes .0) inside (pass-bytes .1 .0) in
+        let w : at + 2 * length (pass-bytes .0) + 12 ≤ at + length (lineAt text at) = d .within in
+        let l : length (pass-bytes .0) ≡ count = pass-bytes .1 .1 in
+        let n : after text at ≡ end = pass-bytes .1 .2 in
+        let b : (1 ≤ length (lineAt text at)) × (after text at ≤ length text) = line-long text at inside in
+        (omega arith, omega arith)

@@ -56,10 +56,10 @@ module _ (text : List ℕ) (at : ℕ) (inside : at < length text) where
   formed-by pairs e n =
       let colon : getD text at 0 ≡ COLON = line-colon text at pairs inside e in
       let facts : ArePairs text (at + 1) (length pairs) × (pairs ≡ pairsAt text (at + 1) (length pairs)) × (1 ≤ endingAt text (at + 1 + 2 * length pairs)) =
-          spelled text pairs (at + 1) (sym (line-spells text at inside colon .0) ∙ e) in
+      spelled text pairs (at + 1) (sym (line-spells text at inside colon .0) ∙ e) in
       let z : at + 1 + 2 * 0 ≡ at + 1 = omega arith in
       let count : countOf pairs ≡ pairAt text (at + 1) =
-          ap (λ (l : List ℕ). getD l 0 0) (facts .1) ∙ getD-pairs text 0 (length pairs) (at + 1) (omega arith) ∙ rw z refl in
+      ap (λ (l : List ℕ). getD l 0 0) (facts .1) ∙ getD-pairs text 0 (length pairs) (at + 1) (omega arith) ∙ rw z refl in
       let long : length pairs ≡ pairAt text (at + 1) + 5 = n ∙ rw count refl in
       let after : at + 1 + 2 * (pairAt text (at + 1) + 5) ≡ afterPairs text at = omega arith in
       record { colon = colon; pairs = rw long at (facts .0); ending = rw after at (rw long at (facts .2)) }
@@ -70,6 +70,7 @@ module _ (text : List ℕ) (at : ℕ) (inside : at < length text) where
       by-count : (pairs : List ℕ) (b : Bool) → lineSpells (lineAt text at) ≡ Pairs pairs → eqb (length pairs) (countOf pairs + 5) ≡ b → Form text at
       by-count pairs true e n = formed (formed-by pairs e (eqb-true _ _ n))
       by-count pairs false e n = unformed (parsed-count (lineAt text at) pairs e n)
+
       go : (s : Spelled) → lineSpells (lineAt text at) ≡ s → Form text at
       go (Pairs pairs) e = by-count pairs (eqb (length pairs) (countOf pairs + 5)) e refl
       go Broken e = unformed (parsed-broken (lineAt text at) e)
@@ -86,9 +87,9 @@ module _ (text : List ℕ) (at : ℕ) (inside : at < length text) where
       let count = pairAt text (at + 1) in
       let after : at + 1 + 2 * (count + 5) ≡ afterPairs text at = omega arith in
       let line : (lineSpells (lineAt text at) ≡ spelledAt text (at + 1)) × (length (lineAt text at) ≡ suc (length (lineAt text (at + 1)))) =
-          line-spells text at inside (f .colon) in
+      line-spells text at inside (f .colon) in
       let rest : (spelledAt text (at + 1) ≡ Pairs (linePairs text at count)) × (length (lineAt text (at + 1)) ≡ 2 * (count + 5) + endingAt text (afterPairs text at)) =
-          rw after at (spells text (count + 5) (at + 1) (f .pairs) (rw after (f .ending))) in
+      rw after at (spells text (count + 5) (at + 1) (f .pairs) (rw after (f .ending))) in
       let bound : at + length (lineAt text at) ≤ length text = line-long text at inside .1 in
       let e : 1 ≤ endingAt text (afterPairs text at) = f .ending in
       record { spells = line .0 ∙ rest .0; counted = refl; ends = omega arith; long = omega arith }

@@ -112,9 +112,9 @@ typed pairs =
 unfoldable pub parsed : List ℕ → Parsed
 parsed line =
     bySpelled (lineSpells line) (Refuses 14) (λ pairs.
-      ask (eqb (length pairs) (countOf pairs + 5)) (Refuses 14)
-      (ask (eqb (total pairs % 256) 0) (Refuses 15)
-      (typed pairs)))
+    ask (eqb (length pairs) (countOf pairs + 5)) (Refuses 14)
+    (ask (eqb (total pairs % 256) 0) (Refuses 15)
+    (typed pairs)))
 
 unfoldable pub byParsed {ℓ} : {A : Type ℓ} → Parsed → (ℕ → A) → (ℕ → List ℕ → A) → (ℕ → A) → A → A
 byParsed (Refuses number) refused data′ upper end = refused number

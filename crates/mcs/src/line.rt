@@ -21,11 +21,7 @@ pub(crate) enum Sum {
 
 // A line whose characters are in order: its count, what its pairs add to, and the place after it.
 pub(crate) enum Shape {
-    Shaped {
-        count: usize,
-        sum: u32,
-        end: usize,
-    },
+    Shaped { count: usize, sum: u32, end: usize },
     Broken,
 }
 

@@ -13,22 +13,14 @@ use crate::line::parse_sound;
 
 // How many bytes the text holds, or a refusal. `length` bytes stand at the front of the buffer.
 pub enum ReadAnswer {
-    Read {
-        length: usize,
-    },
-    Refused {
-        number: u32,
-        place: usize,
-    },
+    Read { length: usize },
+    Refused { number: u32, place: usize },
 }
 
 // How many bytes the text holds, or the refusal of a question up to 18.
 pub(crate) enum Size {
     Total(usize),
-    Refused {
-        number: u32,
-        place: usize,
-    },
+    Refused { number: u32, place: usize },
 }
 
 // Addresses have an upper half and a lower one.
@@ -128,8 +120,8 @@ fn fill(text: &[u8], out: &mut [u8])
             Line::Upper { half: _, end } => {
                 at = end;
             }
-            Line::End { end } => {
-                at = end;
+            Line::End { end: _ } => {
+                return;
             }
             Line::Refused { number: _ } => {
                 return;

@@ -27,7 +27,7 @@ sub-if3 : tie.Need-sub-if3
 sub-if3 c = search needs
 
 returns-3 : tie.Need-returns-3
-returns-3 c = 
+returns-3 c =
     let z : getD (c .before .before .before .before .before .args .text .now) (c .before .before .before .before .before .args .at + 1) 0 ≡ 0 = List·getD-eq-default (c .before .before .before .before .before .args .text .now) 0 {n = c .before .before .before .before .before .args .at + 1} (omega arith) in
     (sym (ending-cr _ _ (ne-eqb _ _ (c .before .before .before .if1 .left)) (eq-eqb _ _ (c .before .if2 .left)) (rw z refl)), omega arith)
 

@@ -26,7 +26,7 @@ returns c = rw (shape-none (c .before .before .before .before .args .text .now) 
 
 returns-2 : tie.Need-returns-2
 unfolding asLine
-returns-2 c = 
+returns-2 c =
     let text = c .before .before .before .before .before .before .args .text .now in
     let at = c .before .before .before .before .before .before .args .at in
     let count = c .before .before .shaped .given .0 .0 in
@@ -36,7 +36,7 @@ returns-2 c =
     rw (parsed-sum (lineAt text at) (linePairs text at count) (o .0 .spells) (orderly-count text at count end (o .0)) (λ h. c .if1 .taken (rw (o .1) h))) refl
 
 typed-line-requires : tie.Need-typed-line-requires
-typed-line-requires c κs = 
+typed-line-requires c κs =
     let text = c .before .before .before .before .before .before .args .text .now in
     let at = c .before .before .before .before .before .before .args .at in
     let count = c .before .before .shaped .given .0 .0 in
@@ -46,7 +46,7 @@ typed-line-requires c κs =
     (o .0 .long, o .0 .counted)
 
 returns-3 : tie.Need-returns-3
-returns-3 c = 
+returns-3 c =
     let text = c .before .before .before .before .before .before .before .args .text .now in
     let at = c .before .before .before .before .before .before .before .args .at in
     let count = c .before .before .before .shaped .given .0 .0 in

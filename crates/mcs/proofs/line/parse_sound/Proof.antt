@@ -13,7 +13,7 @@ add-pair : tie.Need-add-pair
 add-pair c = search needs
 
 pair-requires : tie.Need-pair-requires
-pair-requires c κs = 
+pair-requires c κs =
     let text = c .before .args .text .now in
     let at = c .before .args .at in
     let f : Formed text at = sound-formed text at (c .before .pre .0) (c .before .pre .1) in
@@ -33,7 +33,7 @@ add-after-2 : tie.Need-add-after-2
 add-after-2 c = search needs
 
 ending-requires : tie.Need-ending-requires
-ending-requires c κs = 
+ending-requires c κs =
     let text = c .before .before .args .text .now in
     let at = c .before .before .args .at in
     let f : Formed text at = sound-formed text at (c .before .before .pre .0) (c .before .before .pre .1) in
@@ -41,7 +41,7 @@ ending-requires c κs =
     omega arith
 
 add-typed-line : tie.Need-add-typed-line
-add-typed-line c = 
+add-typed-line c =
     let text = c .before .before .before .args .text .now in
     let at = c .before .before .before .args .at in
     let f : Formed text at = sound-formed text at (c .before .before .before .pre .0) (c .before .before .before .pre .1) in
@@ -49,7 +49,7 @@ add-typed-line c =
     record { fits = omega arith }
 
 typed-line-requires : tie.Need-typed-line-requires
-typed-line-requires c κs = 
+typed-line-requires c κs =
     let text = c .before .before .before .args .text .now in
     let at = c .before .before .before .args .at in
     let f : Formed text at = sound-formed text at (c .before .before .before .pre .0) (c .before .before .before .pre .1) in
@@ -57,7 +57,7 @@ typed-line-requires c κs =
     (omega arith, c .before .pair .ensures .0)
 
 returns : tie.Need-returns
-returns c = 
+returns c =
     let text = c .before .before .before .before .args .text .now in
     let at = c .before .before .before .before .args .at in
     let f : Formed text at = sound-formed text at (c .before .before .before .before .pre .0) (c .before .before .before .before .pre .1) in

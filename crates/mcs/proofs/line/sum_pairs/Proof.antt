@@ -72,7 +72,7 @@ loop-less : tie.Need-loop-less Inv-loop μ-loop
 loop-less c = omega arith
 
 loop-again : tie.Need-loop-again Inv-loop μ-loop
-loop-again c = 
+loop-again c =
     let text = c .before .before .before .before .before .before .before .before .before .args .text .now in
     let at = c .before .before .before .before .before .before .before .before .before .args .at in
     let i = c .before .before .before .before .before .before .before .loop .i in
@@ -81,7 +81,7 @@ loop-again c =
 
 returns-3 : tie.Need-returns-3 Inv-loop μ-loop
 unfolding Summed
-returns-3 c = 
+returns-3 c =
     let e : c .before .loop .i ≡ c .before .before .before .args .count = omega arith in
     (rw e at (c .before .loop .inv .1), rw e at (c .before .loop .inv .2))
 

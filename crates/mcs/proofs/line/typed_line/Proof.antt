@@ -35,7 +35,7 @@ add-address c = search needs
 
 returns : tie.Need-returns
 unfolding asLine
-returns c = 
+returns c =
     let text = c .before .before .before .before .before .before .args .text .now in
     let at = c .before .before .before .before .before .before .args .at in
     let count = c .before .before .before .before .before .before .args .count in
@@ -43,7 +43,7 @@ returns c =
 
 returns-2 : tie.Need-returns-2
 unfolding asLine
-returns-2 c = 
+returns-2 c =
     let text = c .before .before .before .before .before .before .args .text .now in
     let at = c .before .before .before .before .before .before .args .at in
     let count = c .before .before .before .before .before .before .args .count in
@@ -52,7 +52,7 @@ returns-2 c =
 
 returns-3 : tie.Need-returns-3
 unfolding asLine
-returns-3 c = 
+returns-3 c =
     let text = c .before .before .before .before .before .before .before .args .text .now in
     let at = c .before .before .before .before .before .before .before .args .at in
     let count = c .before .before .before .before .before .before .before .args .count in
@@ -60,7 +60,7 @@ returns-3 c =
 
 returns-4 : tie.Need-returns-4
 unfolding asLine
-returns-4 c = 
+returns-4 c =
     let text = c .before .before .before .before .before .before .before .before .args .text .now in
     let at = c .before .before .before .before .before .before .before .before .args .at in
     let count = c .before .before .before .before .before .before .before .before .args .count in
@@ -68,7 +68,7 @@ returns-4 c =
 
 returns-5 : tie.Need-returns-5
 unfolding asLine
-returns-5 c = 
+returns-5 c =
     let text = c .before .before .before .before .before .before .before .before .args .text .now in
     let at = c .before .before .before .before .before .before .before .before .args .at in
     let count = c .before .before .before .before .before .before .before .before .args .count in
@@ -76,7 +76,7 @@ returns-5 c =
 
 returns-6 : tie.Need-returns-6
 unfolding asLine
-returns-6 c = 
+returns-6 c =
     let text = c .before .before .before .before .before .before .before .args .text .now in
     let at = c .before .before .before .before .before .before .before .args .at in
     let count = c .before .before .before .before .before .before .before .args .count in
@@ -84,7 +84,7 @@ returns-6 c =
 
 returns-7 : tie.Need-returns-7
 unfolding asLine
-returns-7 c = 
+returns-7 c =
     let text = c .before .before .before .before .before .before .before .before .args .text .now in
     let at = c .before .before .before .before .before .before .before .before .args .at in
     let count = c .before .before .before .before .before .before .before .before .args .count in
@@ -92,7 +92,7 @@ returns-7 c =
 
 returns-8 : tie.Need-returns-8
 unfolding asLine
-returns-8 c = 
+returns-8 c =
     let text = c .before .before .before .before .before .before .before .before .before .args .text .now in
     let at = c .before .before .before .before .before .before .before .before .before .args .at in
     let count = c .before .before .before .before .before .before .before .before .before .args .count in
@@ -118,7 +118,7 @@ add-t15 c = search needs
 
 returns-9 : tie.Need-returns-9
 unfolding asLine
-returns-9 c = 
+returns-9 c =
     let text = c .before .before .before .before .before .before .before .before .before .before .before .args .text .now in
     let at = c .before .before .before .before .before .before .before .before .before .before .before .args .at in
     let count = c .before .before .before .before .before .before .before .before .before .before .before .args .count in

@@ -41,7 +41,7 @@ add-out : tie.Need-add-out Inv-loop μ-loop
 add-out c = omega arith
 
 slice-write-out : tie.Need-slice-write-out Inv-loop μ-loop
-slice-write-out c = 
+slice-write-out c =
     let text = c .before .before .before .before .before .args .text .now in
     let from = c .before .before .before .before .before .args .from in
     let out = c .before .before .before .before .before .args .out .now in
@@ -59,7 +59,7 @@ loop-less : tie.Need-loop-less Inv-loop μ-loop
 loop-less c = omega arith
 
 loop-again : tie.Need-loop-again Inv-loop μ-loop
-loop-again c = 
+loop-again c =
     let text = c .before .before .before .before .before .args .text .now in
     let from = c .before .before .before .before .before .args .from in
     let out = c .before .before .before .before .before .args .out .now in
@@ -69,11 +69,11 @@ loop-again c =
     let long : length (pairsAt text from count) ≡ count = length-pairs text count from in
     let p : IsPair text (from + 2 * i) = c .before .before .before .before .before .pre .2 i (omega arith) in
     let v : c .pair .result % 256 ≡ getD (pairsAt text from count) i 0 =
-        mod-eq-of-lt (omega arith) ∙ c .pair .ensures .0 ∙ sym (getD-pairs text i count from (omega arith)) in
+    mod-eq-of-lt (omega arith) ∙ c .pair .ensures .0 ∙ sym (getD-pairs text i count from (omega arith)) in
     (omega arith, rw (c .before .before .loop .inv .1, v, add-one) (paste-suc out to (pairsAt text from count) i 0 (omega arith) (omega arith)))
 
 same-length : tie.Need-same-length Inv-loop μ-loop
-same-length c = 
+same-length c =
     let text = c .before .before .before .before .args .text .now in
     let from = c .before .before .before .before .args .from in
     let out = c .before .before .before .before .args .out .now in
@@ -84,7 +84,7 @@ same-length c =
     ap (λ (l : List ℕ). length l) (c .before .loop .inv .1) ∙ length-paste out to (pairsAt text from count) i (omega arith) (omega arith)
 
 returns : tie.Need-returns Inv-loop μ-loop
-returns c = 
+returns c =
     let e : c .before .loop .i ≡ c .before .before .before .before .args .count = omega arith in
     rw e at (c .before .loop .inv .1)
 

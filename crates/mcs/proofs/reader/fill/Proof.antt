@@ -1,91 +1,244 @@
+-- `reader::fill` meets its contract. The loop's invariant: the lines so far are written, and the text reads as from here on.
+use Rattle.mcs.proofs.FillLaws.{Filled, fill-start, fill-length, fill-none, fill-sound, fill-refused, fill-upper, fill-end, fill-pairs, fill-long, fill-data, fill-fits}
+use Rattle.mcs.specs.Place.{Fits}
+use Rattle.mcs.specs.Reading.{readText}
+use lib.ListN.{length}
+use borrow.Author.Needs.{needs}
+use native.Mathlib.Omega.{arith}
+use mathlib.Core.List.{List}
+use mathlib.Core.Path.{_≡_, refl, sym, ap, _∙_}
+use Prim.Native.Nat.{ℕ, _+_, _-_, _*_, _<_, _≤_}
 use Rattle.mcs.proofs.reader.fill.Statement.{statement}
 use Rattle.mcs.proofs.reader.fill.Tie as tie
-use Rattle.mcs.proofs.reader.fill.Reads as reads
-use Rattle.mcs.proofs.reader.fill.Lts as lts
-use Rattle.mcs.proofs.line.parse_sound.Reads as parse-sound-reads
-use Rattle.mcs.proofs.reader.decode.Reads as decode-reads
 
 abbrev Inv-loop : tie.InvT-loop
-Inv-loop text out₀ at₀ next₀ out at next = ?
+Inv-loop text out₀ at₀ next₀ out at next = (at ≤ length text) × Filled text out₀ out at next
 
 abbrev μ-loop : tie.MeasureT-loop
-μ-loop text out₀ at₀ next₀ out at next = ?
+μ-loop text out₀ at₀ next₀ out at next = length text - at
 
--- src/reader.rt:116:5
 loop-holds : tie.Need-loop-holds Inv-loop μ-loop
-loop-holds c = ?
+loop-holds c = (omega arith, fill-start (c .before .before .args .text .now) (c .before .before .args .out .now))
 
--- src/reader.rt:117:13
 parse-sound-requires : tie.Need-parse-sound-requires Inv-loop μ-loop
-parse-sound-requires c κs = ?
+parse-sound-requires c κs =
+    let text = c .before .before .before .before .args .text .now in
+    let before = c .before .before .before .before .args .out .now in
+    let out = c .before .loop .out in
+    let at = c .before .loop .at in
+    let next = c .before .loop .next in
+    let filled : Filled text before out at next = c .before .loop .inv .1 in
+    let fits : Fits (readText text) (length before) = c .before .before .before .before .pre in
+    (omega arith, fill-sound text before out at next filled fits (omega arith))
 
--- src/reader.rt:121:17
 enum-known-read : tie.Need-enum-known-read Inv-loop μ-loop
-enum-known-read c = ?
+enum-known-read c = search needs
 
--- src/reader.rt:124:30
 add-decode : tie.Need-add-decode Inv-loop μ-loop
-add-decode c = ?
+add-decode c =
+    let text = c .before .before .before .before .before .before .before .before .args .text .now in
+    let before = c .before .before .before .before .before .before .before .before .args .out .now in
+    let out = c .before .before .before .before .before .loop .out in
+    let at = c .before .before .before .before .before .loop .at in
+    let next = c .before .before .before .before .before .loop .next in
+    let filled : Filled text before out at next = c .before .before .before .before .before .loop .inv .1 in
+    let fits : Fits (readText text) (length before) = c .before .before .before .before .before .before .before .before .pre in
+    let inside : at < length text = omega arith in
+    let is = c .before .before .before .parse-sound .ensures in
+    let told = c .before .read .given .1 in
+    let address = c .before .read .given .0 .0 in
+    let count = c .before .read .given .0 .1 .0 in
+    let end = c .before .read .given .0 .1 .1 .0 in
+    let long : (at + 2 * count + 12 ≤ end) × (end ≤ length text) = fill-long text before out at next filled fits inside _ is address count end told in
+    record { fits = omega arith }
 
--- src/reader.rt:124:17
 decode-requires : tie.Need-decode-requires Inv-loop μ-loop
-decode-requires c κs = ?
+decode-requires c κs =
+    let text = c .before .before .before .before .before .before .before .before .before .args .text .now in
+    let before = c .before .before .before .before .before .before .before .before .before .args .out .now in
+    let out = c .before .before .before .before .before .before .loop .out in
+    let at = c .before .before .before .before .before .before .loop .at in
+    let next = c .before .before .before .before .before .before .loop .next in
+    let filled : Filled text before out at next = c .before .before .before .before .before .before .loop .inv .1 in
+    let fits : Fits (readText text) (length before) = c .before .before .before .before .before .before .before .before .before .pre in
+    let inside : at < length text = omega arith in
+    let is = c .before .before .before .before .parse-sound .ensures in
+    let told = c .before .before .read .given .1 in
+    let address = c .before .before .read .given .0 .0 in
+    let count = c .before .before .read .given .0 .1 .0 in
+    let end = c .before .before .read .given .0 .1 .1 .0 in
+    let long : (at + 2 * count + 12 ≤ end) × (end ≤ length text) = fill-long text before out at next filled fits inside _ is address count end told in
+    let room : next + count ≤ length before = fill-fits text before out at next filled fits inside _ is address count end told in
+    let same : length out ≡ length before = fill-length text before out at next filled fits in
+    (omega arith, omega arith, fill-pairs text before out at next filled fits inside _ is address count end told)
 
--- src/reader.rt:125:17
 add-next : tie.Need-add-next Inv-loop μ-loop
-add-next c = ?
+add-next c =
+    let text = c .before .before .before .before .before .before .before .before .before .before .before .before .args .text .now in
+    let before = c .before .before .before .before .before .before .before .before .before .before .before .before .args .out .now in
+    let out = c .before .before .before .before .before .before .before .before .before .loop .out in
+    let at = c .before .before .before .before .before .before .before .before .before .loop .at in
+    let next = c .before .before .before .before .before .before .before .before .before .loop .next in
+    let filled : Filled text before out at next = c .before .before .before .before .before .before .before .before .before .loop .inv .1 in
+    let fits : Fits (readText text) (length before) = c .before .before .before .before .before .before .before .before .before .before .before .before .pre in
+    let inside : at < length text = omega arith in
+    let is = c .before .before .before .before .before .before .before .parse-sound .ensures in
+    let told = c .before .before .before .before .before .read .given .1 in
+    let address = c .before .before .before .before .before .read .given .0 .0 in
+    let count = c .before .before .before .before .before .read .given .0 .1 .0 in
+    let end = c .before .before .before .before .before .read .given .0 .1 .1 .0 in
+    let long : (at + 2 * count + 12 ≤ end) × (end ≤ length text) = fill-long text before out at next filled fits inside _ is address count end told in
+    let room : next + count ≤ length before = fill-fits text before out at next filled fits inside _ is address count end told in
+    record { fits = omega arith }
 
--- src/reader.rt:116:5
 loop-less : tie.Need-loop-less Inv-loop μ-loop
-loop-less c = ?
+loop-less c =
+    let text = c .before .before .before .before .before .before .before .before .before .before .before .before .args .text .now in
+    let before = c .before .before .before .before .before .before .before .before .before .before .before .before .args .out .now in
+    let out = c .before .before .before .before .before .before .before .before .before .loop .out in
+    let at = c .before .before .before .before .before .before .before .before .before .loop .at in
+    let next = c .before .before .before .before .before .before .before .before .before .loop .next in
+    let filled : Filled text before out at next = c .before .before .before .before .before .before .before .before .before .loop .inv .1 in
+    let fits : Fits (readText text) (length before) = c .before .before .before .before .before .before .before .before .before .before .before .before .pre in
+    let inside : at < length text = omega arith in
+    let is = c .before .before .before .before .before .before .before .parse-sound .ensures in
+    let told = c .before .before .before .before .before .read .given .1 in
+    let address = c .before .before .before .before .before .read .given .0 .0 in
+    let count = c .before .before .before .before .before .read .given .0 .1 .0 in
+    let end = c .before .before .before .before .before .read .given .0 .1 .1 .0 in
+    let long : (at + 2 * count + 12 ≤ end) × (end ≤ length text) = fill-long text before out at next filled fits inside _ is address count end told in
+    omega arith
 
--- src/reader.rt:116:5
 loop-again : tie.Need-loop-again Inv-loop μ-loop
-loop-again c = ?
+loop-again c =
+    let text = c .before .before .before .before .before .before .before .before .before .before .before .before .args .text .now in
+    let before = c .before .before .before .before .before .before .before .before .before .before .before .before .args .out .now in
+    let out = c .before .before .before .before .before .before .before .before .before .loop .out in
+    let at = c .before .before .before .before .before .before .before .before .before .loop .at in
+    let next = c .before .before .before .before .before .before .before .before .before .loop .next in
+    let filled : Filled text before out at next = c .before .before .before .before .before .before .before .before .before .loop .inv .1 in
+    let fits : Fits (readText text) (length before) = c .before .before .before .before .before .before .before .before .before .before .before .before .pre in
+    let inside : at < length text = omega arith in
+    let is = c .before .before .before .before .before .before .before .parse-sound .ensures in
+    let told = c .before .before .before .before .before .read .given .1 in
+    let address = c .before .before .before .before .before .read .given .0 .0 in
+    let count = c .before .before .before .before .before .read .given .0 .1 .0 in
+    let end = c .before .before .before .before .before .read .given .0 .1 .1 .0 in
+    let long : (at + 2 * count + 12 ≤ end) × (end ≤ length text) = fill-long text before out at next filled fits inside _ is address count end told in
+    (omega arith, rw (c .before .before .decode .ensures) (fill-data text before out at next filled fits inside _ is address count end told))
 
--- src/reader.rt:128:36
 enum-known-read-2 : tie.Need-enum-known-read-2 Inv-loop μ-loop
-enum-known-read-2 c = ?
+enum-known-read-2 c = search needs
 
--- src/reader.rt:116:5
 loop-less-2 : tie.Need-loop-less-2 Inv-loop μ-loop
-loop-less-2 c = ?
+loop-less-2 c =
+    let text = c .before .before .before .before .before .before .before .before .args .text .now in
+    let before = c .before .before .before .before .before .before .before .before .args .out .now in
+    let out = c .before .before .before .before .before .loop .out in
+    let at = c .before .before .before .before .before .loop .at in
+    let next = c .before .before .before .before .before .loop .next in
+    let filled : Filled text before out at next = c .before .before .before .before .before .loop .inv .1 in
+    let fits : Fits (readText text) (length before) = c .before .before .before .before .before .before .before .before .pre in
+    let inside : at < length text = omega arith in
+    let is = c .before .before .before .parse-sound .ensures in
+    let told = c .before .read2 .given .1 in
+    let half = c .before .read2 .given .0 .0 in
+    let end = c .before .read2 .given .0 .1 .0 in
+    let on : Filled text before out end next × (at < end) × (end ≤ length text) = fill-upper text before out at next filled fits inside _ is half end told in
+    omega arith
 
--- src/reader.rt:116:5
 loop-again-2 : tie.Need-loop-again-2 Inv-loop μ-loop
-loop-again-2 c = ?
+loop-again-2 c =
+    let text = c .before .before .before .before .before .before .before .before .args .text .now in
+    let before = c .before .before .before .before .before .before .before .before .args .out .now in
+    let out = c .before .before .before .before .before .loop .out in
+    let at = c .before .before .before .before .before .loop .at in
+    let next = c .before .before .before .before .before .loop .next in
+    let filled : Filled text before out at next = c .before .before .before .before .before .loop .inv .1 in
+    let fits : Fits (readText text) (length before) = c .before .before .before .before .before .before .before .before .pre in
+    let inside : at < length text = omega arith in
+    let is = c .before .before .before .parse-sound .ensures in
+    let told = c .before .read2 .given .1 in
+    let half = c .before .read2 .given .0 .0 in
+    let end = c .before .read2 .given .0 .1 .0 in
+    let on : Filled text before out end next × (at < end) × (end ≤ length text) = fill-upper text before out at next filled fits inside _ is half end told in
+    (omega arith, on .0)
 
--- src/reader.rt:131:25
-enum-known-read-3 : tie.Need-enum-known-read-3 Inv-loop μ-loop
-enum-known-read-3 c = ?
-
--- src/reader.rt:116:5
-loop-less-3 : tie.Need-loop-less-3 Inv-loop μ-loop
-loop-less-3 c = ?
-
--- src/reader.rt:116:5
-loop-again-3 : tie.Need-loop-again-3 Inv-loop μ-loop
-loop-again-3 c = ?
-
--- src/reader.rt:135:17
 enum-told : tie.Need-enum-told Inv-loop μ-loop
-enum-told c = ?
+enum-told c = search needs
 
--- src/reader.rt:135:17
 same-length : tie.Need-same-length Inv-loop μ-loop
-same-length c = ?
+same-length c =
+    let text = c .before .before .before .before .before .before .before .args .text .now in
+    let before = c .before .before .before .before .before .before .before .args .out .now in
+    let out = c .before .before .before .before .loop .out in
+    let at = c .before .before .before .before .loop .at in
+    let next = c .before .before .before .before .loop .next in
+    let filled : Filled text before out at next = c .before .before .before .before .loop .inv .1 in
+    let fits : Fits (readText text) (length before) = c .before .before .before .before .before .before .before .pre in
+    fill-length text before out at next filled fits
 
--- src/reader.rt:135:17
 returns : tie.Need-returns Inv-loop μ-loop
-returns c = ?
+returns c =
+    let text = c .before .before .before .before .before .before .before .args .text .now in
+    let before = c .before .before .before .before .before .before .before .args .out .now in
+    let out = c .before .before .before .before .loop .out in
+    let at = c .before .before .before .before .loop .at in
+    let next = c .before .before .before .before .loop .next in
+    let filled : Filled text before out at next = c .before .before .before .before .loop .inv .1 in
+    let fits : Fits (readText text) (length before) = c .before .before .before .before .before .before .before .pre in
+    let inside : at < length text = omega arith in
+    let is = c .before .before .parse-sound .ensures in
+    fill-end text before out at next filled fits inside _ is _ (c .enum-told .given .1)
 
--- src/reader.rt:110:1
+enum-told-2 : tie.Need-enum-told-2 Inv-loop μ-loop
+enum-told-2 c = search needs
+
 same-length-2 : tie.Need-same-length-2 Inv-loop μ-loop
-same-length-2 c = ?
+same-length-2 c =
+    let text = c .before .before .before .before .before .before .before .args .text .now in
+    let before = c .before .before .before .before .before .before .before .args .out .now in
+    let out = c .before .before .before .before .loop .out in
+    let at = c .before .before .before .before .loop .at in
+    let next = c .before .before .before .before .loop .next in
+    let filled : Filled text before out at next = c .before .before .before .before .loop .inv .1 in
+    let fits : Fits (readText text) (length before) = c .before .before .before .before .before .before .before .pre in
+    fill-length text before out at next filled fits
 
--- src/reader.rt:110:1
 returns-2 : tie.Need-returns-2 Inv-loop μ-loop
-returns-2 c = ?
+returns-2 c =
+    let text = c .before .before .before .before .before .before .before .args .text .now in
+    let before = c .before .before .before .before .before .before .before .args .out .now in
+    let out = c .before .before .before .before .loop .out in
+    let at = c .before .before .before .before .loop .at in
+    let next = c .before .before .before .before .loop .next in
+    let filled : Filled text before out at next = c .before .before .before .before .loop .inv .1 in
+    let fits : Fits (readText text) (length before) = c .before .before .before .before .before .before .before .pre in
+    let inside : at < length text = omega arith in
+    let is = c .before .before .parse-sound .ensures in
+    absurd (fill-refused text before out at next filled fits inside _ is _ (c .enum-told2 .given .1))
+
+same-length-3 : tie.Need-same-length-3 Inv-loop μ-loop
+same-length-3 c =
+    let text = c .before .before .before .before .args .text .now in
+    let before = c .before .before .before .before .args .out .now in
+    let out = c .before .loop .out in
+    let at = c .before .loop .at in
+    let next = c .before .loop .next in
+    let filled : Filled text before out at next = c .before .loop .inv .1 in
+    let fits : Fits (readText text) (length before) = c .before .before .before .before .pre in
+    fill-length text before out at next filled fits
+
+returns-3 : tie.Need-returns-3 Inv-loop μ-loop
+returns-3 c =
+    let text = c .before .before .before .before .args .text .now in
+    let before = c .before .before .before .before .args .out .now in
+    let out = c .before .loop .out in
+    let at = c .before .loop .at in
+    let next = c .before .loop .next in
+    let filled : Filled text before out at next = c .before .loop .inv .1 in
+    let fits : Fits (readText text) (length before) = c .before .before .before .before .pre in
+    absurd (fill-none text before out at next filled fits (omega arith))
 
 pub fill-spec : {M : Type 1} → statement M
 fill-spec =
@@ -104,11 +257,11 @@ fill-spec =
     enum-known-read-2
     loop-less-2
     loop-again-2
-    enum-known-read-3
-    loop-less-3
-    loop-again-3
     enum-told
     same-length
     returns
+    enum-told-2
     same-length-2
-    returns-2)
+    returns-2
+    same-length-3
+    returns-3)

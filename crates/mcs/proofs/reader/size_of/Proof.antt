@@ -1,83 +1,202 @@
+-- `reader::size_of` meets its contract. The loop's invariant: the lines so far hold an image of `next` bytes, and the text reads as from here on.
+use Rattle.mcs.proofs.ReadingLaws.{Reached, at-none, pass-refused, pass-upper, pass-end, pass-more, pass-apart, pass-data, pass-long}
+use Rattle.mcs.specs.Place.{sizeOf}
+use Rattle.mcs.specs.Reading.{Holds, Refused, readText}
+use lib.ListN.{length}
+use borrow.Author.Tests.{not-true, not-false}
+use borrow.Author.Needs.{needs}
+use native.Mathlib.Omega.{arith}
+use mathlib.Core.List.{List, []}
+use mathlib.Core.Bool.{true, false}
+use mathlib.Core.Path.{_≡_, refl, sym, _∙_}
+use Prim.Native.Nat.{ℕ, _+_, _-_, _*_, _<_, _≤_}
 use Rattle.mcs.proofs.reader.size_of.Statement.{statement}
 use Rattle.mcs.proofs.reader.size_of.Tie as tie
-use Rattle.mcs.proofs.reader.size_of.Reads as reads
-use Rattle.mcs.proofs.reader.size_of.Lts as lts
-use Rattle.mcs.proofs.line.parse.Reads as parse-reads
-use Rattle.mcs.proofs.reader.follows_on.Reads as follows-on-reads
 
 abbrev Inv-loop : tie.InvT-loop
-Inv-loop text at₀ upper₀ next₀ at upper next = ?
+Inv-loop text at₀ upper₀ next₀ at upper next = (at ≤ length text) × (next ≤ at) × Reached text at upper next
 
 abbrev μ-loop : tie.MeasureT-loop
-μ-loop text at₀ upper₀ next₀ at upper next = ?
+μ-loop text at₀ upper₀ next₀ at upper next = length text - at
 
--- src/reader.rt:56:5
 loop-holds : tie.Need-loop-holds Inv-loop μ-loop
-loop-holds c = ?
+loop-holds c = (omega arith, omega arith, ([], (refl, refl)))
 
--- src/reader.rt:57:13
 parse-requires : tie.Need-parse-requires Inv-loop μ-loop
-parse-requires c κs = ?
+parse-requires c κs = search needs
 
--- src/reader.rt:60:17
 enum-known-read : tie.Need-enum-known-read Inv-loop μ-loop
-enum-known-read c = ?
+enum-known-read c = search needs
 
--- src/reader.rt:64:21
 follows-on-requires : tie.Need-follows-on-requires Inv-loop μ-loop
-follows-on-requires c κs = ?
+follows-on-requires c κs =
+    let text = c .before .before .before .before .before .before .before .args .text .now in
+    let at = c .before .before .before .before .before .loop .at in
+    let upper = c .before .before .before .before .before .loop .upper in
+    let next = c .before .before .before .before .before .loop .next in
+    let inside : at < length text = omega arith in
+    let reached : Reached text at upper next = c .before .before .before .before .before .loop .inv .2 in
+    let is = c .before .before .before .parse .ensures in
+    let told = c .before .read .given .1 in
+    let address = c .before .read .given .0 .0 in
+    let count = c .before .read .given .0 .1 .0 in
+    let end = c .before .read .given .0 .1 .1 .0 in
+    let long : (at + 2 * count + 12 ≤ end) × (end ≤ length text) = pass-long text at upper next inside reached _ is address count end told in
+    omega arith
 
--- src/reader.rt:65:21
 returns : tie.Need-returns Inv-loop μ-loop
-returns c = ?
+unfolding sizeOf
+returns c =
+    let text = c .before .before .before .before .before .before .before .before .before .args .text .now in
+    let at = c .before .before .before .before .before .before .before .loop .at in
+    let upper = c .before .before .before .before .before .before .before .loop .upper in
+    let next = c .before .before .before .before .before .before .before .loop .next in
+    let inside : at < length text = omega arith in
+    let reached : Reached text at upper next = c .before .before .before .before .before .before .before .loop .inv .2 in
+    let is = c .before .before .before .before .before .parse .ensures in
+    let told = c .before .before .before .read .given .1 in
+    let address = c .before .before .before .read .given .0 .0 in
+    let count = c .before .before .before .read .given .0 .1 .0 in
+    let end = c .before .before .before .read .given .0 .1 .1 .0 in
+    rw (pass-apart text at upper next inside reached _ is address count end told (sym (c .before .follows-on .ensures) ∙ not-true _ (c .if1 .taken))) refl
 
--- src/reader.rt:70:17
 add-next : tie.Need-add-next Inv-loop μ-loop
-add-next c = ?
+add-next c =
+    let text = c .before .before .before .before .before .before .before .before .before .args .text .now in
+    let at = c .before .before .before .before .before .before .before .loop .at in
+    let upper = c .before .before .before .before .before .before .before .loop .upper in
+    let next = c .before .before .before .before .before .before .before .loop .next in
+    let inside : at < length text = omega arith in
+    let reached : Reached text at upper next = c .before .before .before .before .before .before .before .loop .inv .2 in
+    let is = c .before .before .before .before .before .parse .ensures in
+    let told = c .before .before .before .read .given .1 in
+    let address = c .before .before .before .read .given .0 .0 in
+    let count = c .before .before .before .read .given .0 .1 .0 in
+    let end = c .before .before .before .read .given .0 .1 .1 .0 in
+    let long : (at + 2 * count + 12 ≤ end) × (end ≤ length text) = pass-long text at upper next inside reached _ is address count end told in
+    record { fits = omega arith }
 
--- src/reader.rt:56:5
 loop-less : tie.Need-loop-less Inv-loop μ-loop
-loop-less c = ?
+loop-less c =
+    let text = c .before .before .before .before .before .before .before .before .before .args .text .now in
+    let at = c .before .before .before .before .before .before .before .loop .at in
+    let upper = c .before .before .before .before .before .before .before .loop .upper in
+    let next = c .before .before .before .before .before .before .before .loop .next in
+    let inside : at < length text = omega arith in
+    let reached : Reached text at upper next = c .before .before .before .before .before .before .before .loop .inv .2 in
+    let is = c .before .before .before .before .before .parse .ensures in
+    let told = c .before .before .before .read .given .1 in
+    let address = c .before .before .before .read .given .0 .0 in
+    let count = c .before .before .before .read .given .0 .1 .0 in
+    let end = c .before .before .before .read .given .0 .1 .1 .0 in
+    let long : (at + 2 * count + 12 ≤ end) × (end ≤ length text) = pass-long text at upper next inside reached _ is address count end told in
+    omega arith
 
--- src/reader.rt:56:5
 loop-again : tie.Need-loop-again Inv-loop μ-loop
-loop-again c = ?
+loop-again c =
+    let text = c .before .before .before .before .before .before .before .before .before .args .text .now in
+    let at = c .before .before .before .before .before .before .before .loop .at in
+    let upper = c .before .before .before .before .before .before .before .loop .upper in
+    let next = c .before .before .before .before .before .before .before .loop .next in
+    let inside : at < length text = omega arith in
+    let reached : Reached text at upper next = c .before .before .before .before .before .before .before .loop .inv .2 in
+    let is = c .before .before .before .before .before .parse .ensures in
+    let told = c .before .before .before .read .given .1 in
+    let address = c .before .before .before .read .given .0 .0 in
+    let count = c .before .before .before .read .given .0 .1 .0 in
+    let end = c .before .before .before .read .given .0 .1 .1 .0 in
+    let long : (at + 2 * count + 12 ≤ end) × (end ≤ length text) = pass-long text at upper next inside reached _ is address count end told in
+    (omega arith, omega arith, pass-data text at upper next inside reached _ is address count end told (sym (c .before .follows-on .ensures) ∙ not-false _ (c .if1 .left)))
 
--- src/reader.rt:73:27
 enum-known-read-2 : tie.Need-enum-known-read-2 Inv-loop μ-loop
-enum-known-read-2 c = ?
+enum-known-read-2 c = search needs
 
--- src/reader.rt:56:5
 loop-less-2 : tie.Need-loop-less-2 Inv-loop μ-loop
-loop-less-2 c = ?
+loop-less-2 c =
+    let text = c .before .before .before .before .before .before .before .args .text .now in
+    let at = c .before .before .before .before .before .loop .at in
+    let upper = c .before .before .before .before .before .loop .upper in
+    let next = c .before .before .before .before .before .loop .next in
+    let inside : at < length text = omega arith in
+    let reached : Reached text at upper next = c .before .before .before .before .before .loop .inv .2 in
+    let is = c .before .before .before .parse .ensures in
+    let told = c .before .read2 .given .1 in
+    let half = c .before .read2 .given .0 .0 in
+    let end = c .before .read2 .given .0 .1 .0 in
+    let on : Reached text end half next × (at < end) × (end ≤ length text) = pass-upper text at upper next inside reached _ is half end told in
+    omega arith
 
--- src/reader.rt:56:5
 loop-again-2 : tie.Need-loop-again-2 Inv-loop μ-loop
-loop-again-2 c = ?
+loop-again-2 c =
+    let text = c .before .before .before .before .before .before .before .args .text .now in
+    let at = c .before .before .before .before .before .loop .at in
+    let upper = c .before .before .before .before .before .loop .upper in
+    let next = c .before .before .before .before .before .loop .next in
+    let inside : at < length text = omega arith in
+    let reached : Reached text at upper next = c .before .before .before .before .before .loop .inv .2 in
+    let is = c .before .before .before .parse .ensures in
+    let told = c .before .read2 .given .1 in
+    let half = c .before .read2 .given .0 .0 in
+    let end = c .before .read2 .given .0 .1 .0 in
+    let on : Reached text end half next × (at < end) × (end ≤ length text) = pass-upper text at upper next inside reached _ is half end told in
+    (omega arith, omega arith, on .0)
 
--- src/reader.rt:77:25
 enum-known-read-3 : tie.Need-enum-known-read-3 Inv-loop μ-loop
-enum-known-read-3 c = ?
+enum-known-read-3 c = search needs
 
--- src/reader.rt:79:21
 returns-2 : tie.Need-returns-2 Inv-loop μ-loop
-returns-2 c = ?
+unfolding sizeOf
+returns-2 c =
+    let text = c .before .before .before .before .before .before .before .before .args .text .now in
+    let at = c .before .before .before .before .before .before .loop .at in
+    let upper = c .before .before .before .before .before .before .loop .upper in
+    let next = c .before .before .before .before .before .before .loop .next in
+    let inside : at < length text = omega arith in
+    let reached : Reached text at upper next = c .before .before .before .before .before .before .loop .inv .2 in
+    let is = c .before .before .before .before .parse .ensures in
+    let told = c .before .before .read3 .given .1 in
+    let end = c .before .before .read3 .given .0 .0 in
+    rw (pass-more text at upper next inside reached _ is end told (c .if2 .taken)) refl
 
--- src/reader.rt:84:17
 returns-3 : tie.Need-returns-3 Inv-loop μ-loop
-returns-3 c = ?
+unfolding sizeOf
+returns-3 c =
+    let text = c .before .before .before .before .before .before .before .before .args .text .now in
+    let at = c .before .before .before .before .before .before .loop .at in
+    let upper = c .before .before .before .before .before .before .loop .upper in
+    let next = c .before .before .before .before .before .before .loop .next in
+    let inside : at < length text = omega arith in
+    let reached : Reached text at upper next = c .before .before .before .before .before .before .loop .inv .2 in
+    let is = c .before .before .before .before .parse .ensures in
+    let told = c .before .before .read3 .given .1 in
+    let end = c .before .before .read3 .given .0 .0 in
+    let held : (image : List ℕ) × ((length image ≡ next) × (readText text ≡ Holds image)) = pass-end text at upper next inside reached _ is end told (omega arith) in
+    rw (held .1 .1) (rw (held .1 .0) refl)
 
--- src/reader.rt:86:29
 enum-known-read-4 : tie.Need-enum-known-read-4 Inv-loop μ-loop
-enum-known-read-4 c = ?
+enum-known-read-4 c = search needs
 
--- src/reader.rt:87:17
 returns-4 : tie.Need-returns-4 Inv-loop μ-loop
-returns-4 c = ?
+unfolding sizeOf
+returns-4 c =
+    let text = c .before .before .before .before .before .before .before .args .text .now in
+    let at = c .before .before .before .before .before .loop .at in
+    let upper = c .before .before .before .before .before .loop .upper in
+    let next = c .before .before .before .before .before .loop .next in
+    let inside : at < length text = omega arith in
+    let reached : Reached text at upper next = c .before .before .before .before .before .loop .inv .2 in
+    let is = c .before .before .before .parse .ensures in
+    let told = c .before .read4 .given .1 in
+    let number = c .before .read4 .given .0 .0 in
+    rw (pass-refused text at upper next inside reached _ is number told) refl
 
--- src/reader.rt:50:1
 returns-5 : tie.Need-returns-5 Inv-loop μ-loop
-returns-5 c = ?
+unfolding sizeOf
+returns-5 c =
+    let text = c .before .before .before .args .text .now in
+    let at = c .before .loop .at in
+    let reached : Reached text at (c .before .loop .upper) (c .before .loop .next) = c .before .loop .inv .2 in
+    rw (sym (reached .1 .1) ∙ at-none text at (c .before .loop .upper) (reached .0) (omega arith)) refl
 
 pub size-of-spec : {M : Type 1} → statement M
 size-of-spec =
