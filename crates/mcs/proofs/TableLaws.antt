@@ -2,12 +2,15 @@
 use Prim.Native.Nat.{ℕ, zero, suc, _+_, _<_}
 use mathlib.Core.Path.{_≡_, refl}
 use mathlib.Core.Bool.{Bool, true, false, _&&_}
-use mathlib.Core.List.{List, [], _∷_}
+use mathlib.Core.List.{List, [], _∷_, _++_}
 use native.Mathlib.Nat.{add-zero}
 use native.Mathlib.Omega.{arith}
 use borrow.Author.Tests.{eqb-true}
 use lib.Dec.{T, eqb}
-use lib.ListN.{length, getD}
+use lib.ListN.{length, getD, replicate}
+use Rattle.mcs.specs.Text.{digits}
+use Rattle.mcs.specs.Reading.{placeIn, digitOf}
+use Rattle.mcs.specs.Place.{DigitTable}
 
 -- each entry, from place i on, is what the rule says of its place
 abbrev pub agrees : (ℕ → ℕ) → ℕ → List ℕ → Bool
@@ -31,3 +34,13 @@ entry-from rule (x ∷ xs) i t (suc k) h =
 
 pub entry : (rule : ℕ → ℕ) (xs : List ℕ) → T (agrees rule 0 xs) → (k : ℕ) → k < length xs → getD xs k 0 ≡ rule k
 entry rule xs t k h = let e : 0 + k ≡ k = omega arith in rw e at (entry-from rule xs 0 t k h)
+
+-- The code's table: up to 0 to 9, up to A to F, and after them.
+unfoldable pub values : List ℕ
+values =
+    replicate 48 16 ++ (0 ∷ 1 ∷ 2 ∷ 3 ∷ 4 ∷ 5 ∷ 6 ∷ 7 ∷ 8 ∷ 9 ∷ replicate 7 16)
+    ++ (10 ∷ 11 ∷ 12 ∷ 13 ∷ 14 ∷ 15 ∷ replicate 185 16)
+
+pub digit-table : DigitTable values
+unfolding values digitOf placeIn digits
+digit-table = record { size = refl; entry = entry digitOf values tt }

@@ -16,6 +16,11 @@ use Rattle.mcs.specs.declared.line.Line.the-variants.{Data as DataLine, 
 use Rattle.mcs.specs.declared.reader.Size.{Size}
 use Rattle.mcs.specs.declared.reader.Size.the-variants.{Total, Refused as SizeRefused}
 
+-- the digit's value of each of the 256 characters
+pub record DigitTable (values : List ℕ) : Type 0 where
+  pub size : length values ≡ 256
+  pub entry : (c : ℕ) → c < 256 → getD values c 0 ≡ digitOf c
+
 abbrev pub pairAt : List ℕ → ℕ → ℕ
 pairAt text at = 16 * digitOf (getD text at 0) + digitOf (getD text (at + 1) 0)
 

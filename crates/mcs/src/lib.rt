@@ -2,3 +2,4 @@
 mod digit;
 mod line;
 pub mod reader;
+mod table;

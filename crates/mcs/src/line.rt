@@ -3,7 +3,7 @@ ghost use mathlib.Core.Path.{_≡_};
 ghost use Prim.Native.Nat.{ℕ, _+_, _*_, _<_, _≤_};
 ghost use lib.ListN.{length};
 ghost use Rattle.mcs.specs.Reading.{typed, parsed};
-ghost use Rattle.mcs.specs.Place.{pairAt, pairsAt, endingAt, lineAt, Summed, ShapeIs, asLine, Sound};
+ghost use Rattle.mcs.specs.Place.{DigitTable, pairAt, pairsAt, endingAt, lineAt, Summed, ShapeIs, asLine, Sound};
 use crate::digit::digit;
 use crate::digit::pair;
 
@@ -45,15 +45,15 @@ pub(crate) enum Line {
 }
 
 // What `count` pairs from `at` on add to.
-fn sum_pairs(text: &[u8], at: usize, count: usize) -> Sum
-    requires { ⌜ (at + 2 * count ≤ length (now text)) × (count ≤ 277) ⌝ }
+fn sum_pairs(values: &[u8], text: &[u8], at: usize, count: usize) -> Sum
+    requires { ⌜ (at + 2 * count ≤ length (now text)) × (count ≤ 277) × DigitTable (now values) ⌝ }
     ensures { λ r. ⌜ Summed (now (text .entry)) at count r ⌝ }
 {
     let mut sum = 0;
     let mut i = 0;
     while i < count {
-        let high = digit(text[at + 2 * i]);
-        let low = digit(text[at + 2 * i + 1]);
+        let high = digit(values, text[at + 2 * i]);
+        let low = digit(values, text[at + 2 * i + 1]);
         if 15 < high {
             return Sum::Broken;
         }
@@ -85,8 +85,8 @@ fn ending(text: &[u8], at: usize) -> usize
 }
 
 // The characters of the line at `at`.
-fn shape_of(text: &[u8], at: usize) -> Shape
-    requires { ⌜ at < length (now text) ⌝ }
+fn shape_of(values: &[u8], text: &[u8], at: usize) -> Shape
+    requires { ⌜ (at < length (now text)) × DigitTable (now values) ⌝ }
     ensures { λ r. ⌜ ShapeIs (now (text .entry)) at r ⌝ }
 {
     let rest = text.len() - at;
@@ -96,11 +96,11 @@ fn shape_of(text: &[u8], at: usize) -> Shape
     if text[at] != COLON {
         return Shape::Broken;
     }
-    let count = pair(text, at + 1) as usize;
+    let count = pair(values, text, at + 1) as usize;
     if rest < 2 * count + 12 {
         return Shape::Broken;
     }
-    let summed = sum_pairs(text, at + 1, count + 5);
+    let summed = sum_pairs(values, text, at + 1, count + 5);
     let Sum::Of(sum) = summed else {
         return Shape::Broken;
     };
@@ -109,20 +109,17 @@ fn shape_of(text: &[u8], at: usize) -> Shape
     if ended == 0 {
         return Shape::Broken;
     }
-    Shape::Shaped {
-        count,
-        sum,
-        end: after + ended,
-    }
+    let end = after + ended;
+    Shape::Shaped { count, sum, end }
 }
 
 // The record of a line whose characters are in order.
-fn typed_line(text: &[u8], at: usize, count: usize, end: usize) -> Line
-    requires { ⌜ (at + 2 * count + 11 ≤ length (now text)) × (count ≡ pairAt (now text) (at + 1)) ⌝ }
+fn typed_line(values: &[u8], text: &[u8], at: usize, count: usize, end: usize) -> Line
+    requires { ⌜ (at + 2 * count + 11 ≤ length (now text)) × (count ≡ pairAt (now text) (at + 1)) × DigitTable (now values) ⌝ }
     ensures { λ r. ⌜ r ≡ asLine (typed (pairsAt (now (text .entry)) (at + 1) (count + 5))) end ⌝ }
 {
-    let kind = pair(text, at + 7);
-    let address = pair(text, at + 3) * 256 + pair(text, at + 5);
+    let kind = pair(values, text, at + 7);
+    let address = pair(values, text, at + 3) * 256 + pair(values, text, at + 5);
     if kind == 0x00 {
         if count == 0 {
             return Line::Refused { number: 16 };
@@ -151,33 +148,32 @@ fn typed_line(text: &[u8], at: usize, count: usize, end: usize) -> Line
     if address != 0 {
         return Line::Refused { number: 16 };
     }
-    Line::Upper {
-        half: pair(text, at + 9) * 256 + pair(text, at + 11),
-        end,
-    }
+    let half = pair(values, text, at + 9) * 256 + pair(values, text, at + 11);
+    Line::Upper { half, end }
 }
 
 // The line at `at`: questions 14, 15 and 16.
-pub(crate) fn parse(text: &[u8], at: usize) -> Line
-    requires { ⌜ at < length (now text) ⌝ }
+pub(crate) fn parse(values: &[u8], text: &[u8], at: usize) -> Line
+    requires { ⌜ (at < length (now text)) × DigitTable (now values) ⌝ }
     ensures { λ r. ⌜ r ≡ asLine (parsed (lineAt (now (text .entry)) at)) (at + length (lineAt (now (text .entry)) at)) ⌝ }
 {
-    let shaped = shape_of(text, at);
+    let shaped = shape_of(values, text, at);
     let Shape::Shaped { count, sum, end } = shaped else {
         return Line::Refused { number: 14 };
     };
     if sum % 256 != 0 {
         return Line::Refused { number: 15 };
     }
-    typed_line(text, at, count, end)
+    typed_line(values, text, at, count, end)
 }
 
 // The same of a line that is known to pass them: nothing is tested again.
-pub(crate) fn parse_sound(text: &[u8], at: usize) -> Line
-    requires { ⌜ (at < length (now text)) × Sound (lineAt (now text) at) ⌝ }
+pub(crate) fn parse_sound(values: &[u8], text: &[u8], at: usize) -> Line
+    requires { ⌜ (at < length (now text)) × Sound (lineAt (now text) at) × DigitTable (now values) ⌝ }
     ensures { λ r. ⌜ r ≡ asLine (parsed (lineAt (now (text .entry)) at)) (at + length (lineAt (now (text .entry)) at)) ⌝ }
 {
-    let count = pair(text, at + 1) as usize;
+    let count = pair(values, text, at + 1) as usize;
     let after = at + 2 * count + 11;
-    typed_line(text, at, count, after + ending(text, after))
+    let end = after + ending(text, after);
+    typed_line(values, text, at, count, end)
 }

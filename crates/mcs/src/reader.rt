@@ -5,11 +5,12 @@ ghost use lib.ListN.{length};
 ghost use lib.Seq.{paste};
 ghost use Rattle.mcs.specs.Reading.{follows, readText};
 ghost use Rattle.mcs.specs.Answers.{readAnswer, readOutput};
-ghost use Rattle.mcs.specs.Place.{ArePairs, pairsAt, sizeOf, Fits};
+ghost use Rattle.mcs.specs.Place.{DigitTable, ArePairs, pairsAt, sizeOf, Fits};
 use crate::digit::pair;
 use crate::line::Line;
 use crate::line::parse;
 use crate::line::parse_sound;
+use crate::table::VALUES;
 
 // How many bytes the text holds, or a refusal. `length` bytes stand at the front of the buffer.
 pub enum ReadAnswer {
@@ -39,14 +40,15 @@ fn follows_on(half: u32, address: u32, next: usize, count: usize) -> bool
 }
 
 // The first pass. It writes nothing.
-fn size_of(text: &[u8]) -> Size
+fn size_of(values: &[u8], text: &[u8]) -> Size
+    requires { ⌜ DigitTable (now values) ⌝ }
     ensures { λ r. ⌜ r ≡ sizeOf (readText (now (text .entry))) ⌝ }
 {
     let mut at = 0;
     let mut upper = 0;
     let mut next = 0;
     while at < text.len() {
-        let read = parse(text, at);
+        let read = parse(values, text, at);
         match read {
             Line::Data {
                 address,
@@ -87,33 +89,33 @@ fn size_of(text: &[u8]) -> Size
 }
 
 // The bytes that `count` pairs from `from` on make, at `to`.
-fn decode(text: &[u8], from: usize, out: &mut [u8], to: usize, count: usize)
-    requires { ⌜ (from + 2 * count ≤ length (now text)) × (to + count ≤ length (now out)) × ArePairs (now text) from count ⌝ }
+fn decode(values: &[u8], text: &[u8], from: usize, out: &mut [u8], to: usize, count: usize)
+    requires { ⌜ (from + 2 * count ≤ length (now text)) × (to + count ≤ length (now out)) × ArePairs (now text) from count × DigitTable (now values) ⌝ }
     ensures { λ r. ⌜ now (out .exit) ≡ paste (now (out .entry)) to (pairsAt (now (text .entry)) from count) count ⌝ }
 {
     let mut i = 0;
     while i < count {
-        out[to + i] = (pair(text, from + 2 * i) % 256) as u8;
+        out[to + i] = (pair(values, text, from + 2 * i) % 256) as u8;
         i += 1;
     }
 }
 
 // The second pass, over a text that holds an image for which there is room.
-fn fill(text: &[u8], out: &mut [u8])
-    requires { ⌜ Fits (readText (now text)) (length (now out)) ⌝ }
+fn fill(values: &[u8], text: &[u8], out: &mut [u8])
+    requires { ⌜ Fits (readText (now text)) (length (now out)) × DigitTable (now values) ⌝ }
     ensures { λ r. ⌜ now (out .exit) ≡ readOutput (now (text .entry)) (now (out .entry)) ⌝ }
 {
     let mut at = 0;
     let mut next = 0;
     while at < text.len() {
-        let read = parse_sound(text, at);
+        let read = parse_sound(values, text, at);
         match read {
             Line::Data {
                 address: _,
                 count,
                 end,
             } => {
-                decode(text, at + 9, out, next, count);
+                decode(values, text, at + 9, out, next, count);
                 next += count;
                 at = end;
             }
@@ -130,12 +132,13 @@ fn fill(text: &[u8], out: &mut [u8])
     }
 }
 
-// Reads a text into a buffer. A refusal leaves the buffer as it was.
-pub fn read(text: &[u8], out: &mut [u8]) -> ReadAnswer
+// The call below, given the table of digits.
+fn read_by(values: &[u8], text: &[u8], out: &mut [u8]) -> ReadAnswer
+    requires { ⌜ DigitTable (now values) ⌝ }
     ensures answer { λ r. ⌜ r ≡ readAnswer (now (text .entry)) (now (out .entry)) ⌝ }
     ensures output { λ r. ⌜ now (out .exit) ≡ readOutput (now (text .entry)) (now (out .entry)) ⌝ }
 {
-    let sized = size_of(text);
+    let sized = size_of(values, text);
     match sized {
         Size::Total(length) => {
             if out.len() < length {
@@ -144,9 +147,18 @@ pub fn read(text: &[u8], out: &mut [u8]) -> ReadAnswer
                     place: 0,
                 };
             }
-            fill(text, out);
+            fill(values, text, out);
             ReadAnswer::Read { length }
         }
         Size::Refused { number, place } => ReadAnswer::Refused { number, place },
     }
+}
+
+// Reads a text into a buffer. A refusal leaves the buffer as it was.
+pub fn read(text: &[u8], out: &mut [u8]) -> ReadAnswer
+    ensures answer { λ r. ⌜ r ≡ readAnswer (now (text .entry)) (now (out .entry)) ⌝ }
+    ensures output { λ r. ⌜ now (out .exit) ≡ readOutput (now (text .entry)) (now (out .entry)) ⌝ }
+{
+    let values = VALUES;
+    read_by(&values, text, out)
 }

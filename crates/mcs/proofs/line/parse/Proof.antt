@@ -22,13 +22,13 @@ enum-told c = search needs
 
 returns : tie.Need-returns
 unfolding asLine
-returns c = rw (shape-none (c .before .before .before .before .args .text .now) (c .before .before .before .before .args .at) _ (c .before .before .shape-of .ensures) (c .enum-told .given .1)) refl
+returns c = rw (shape-none (c .before .before .before .before .before .args .text .now) (c .before .before .before .before .before .args .at) _ (c .before .before .shape-of .ensures) (c .enum-told .given .1)) refl
 
 returns-2 : tie.Need-returns-2
 unfolding asLine
 returns-2 c =
-    let text = c .before .before .before .before .before .before .args .text .now in
-    let at = c .before .before .before .before .before .before .args .at in
+    let text = c .before .before .before .before .before .before .before .args .text .now in
+    let at = c .before .before .before .before .before .before .before .args .at in
     let count = c .before .before .shaped .given .0 .0 in
     let sum = c .before .before .shaped .given .0 .1 .0 in
     let end = c .before .before .shaped .given .0 .1 .1 .0 in
@@ -37,18 +37,18 @@ returns-2 c =
 
 typed-line-requires : tie.Need-typed-line-requires
 typed-line-requires c κs =
-    let text = c .before .before .before .before .before .before .args .text .now in
-    let at = c .before .before .before .before .before .before .args .at in
+    let text = c .before .before .before .before .before .before .before .args .text .now in
+    let at = c .before .before .before .before .before .before .before .args .at in
     let count = c .before .before .shaped .given .0 .0 in
     let sum = c .before .before .shaped .given .0 .1 .0 in
     let end = c .before .before .shaped .given .0 .1 .1 .0 in
     let o : Orderly text at count end × (sum ≡ total (linePairs text at count)) = shape-some text at _ count sum end (c .before .before .before .before .shape-of .ensures) (c .before .before .shaped .given .1) in
-    (o .0 .long, o .0 .counted)
+    (o .0 .long, o .0 .counted, search needs)
 
 returns-3 : tie.Need-returns-3
 returns-3 c =
-    let text = c .before .before .before .before .before .before .before .args .text .now in
-    let at = c .before .before .before .before .before .before .before .args .at in
+    let text = c .before .before .before .before .before .before .before .before .args .text .now in
+    let at = c .before .before .before .before .before .before .before .before .args .at in
     let count = c .before .before .before .shaped .given .0 .0 in
     let sum = c .before .before .before .shaped .given .0 .1 .0 in
     let end = c .before .before .before .shaped .given .0 .1 .1 .0 in

@@ -14,11 +14,11 @@ add-pair c = search needs
 
 pair-requires : tie.Need-pair-requires
 pair-requires c κs =
-    let text = c .before .args .text .now in
-    let at = c .before .args .at in
-    let f : Formed text at = sound-formed text at (c .before .pre .0) (c .before .pre .1) in
-    let l : afterPairs text at + 1 ≤ length text = formed-long text at (c .before .pre .0) f in
-    omega arith
+    let text = c .before .before .args .text .now in
+    let at = c .before .before .args .at in
+    let f : Formed text at = sound-formed text at (c .before .before .pre .0) (c .before .before .pre .1) in
+    let l : afterPairs text at + 1 ≤ length text = formed-long text at (c .before .before .pre .0) f in
+    (omega arith, search needs)
 
 cast-count : tie.Need-cast-count
 cast-count c = search needs
@@ -34,37 +34,37 @@ add-after-2 c = search needs
 
 ending-requires : tie.Need-ending-requires
 ending-requires c κs =
-    let text = c .before .before .args .text .now in
-    let at = c .before .before .args .at in
-    let f : Formed text at = sound-formed text at (c .before .before .pre .0) (c .before .before .pre .1) in
-    let l : afterPairs text at + 1 ≤ length text = formed-long text at (c .before .before .pre .0) f in
+    let text = c .before .before .before .args .text .now in
+    let at = c .before .before .before .args .at in
+    let f : Formed text at = sound-formed text at (c .before .before .before .pre .0) (c .before .before .before .pre .1) in
+    let l : afterPairs text at + 1 ≤ length text = formed-long text at (c .before .before .before .pre .0) f in
     omega arith
 
-add-typed-line : tie.Need-add-typed-line
-add-typed-line c =
-    let text = c .before .before .before .args .text .now in
-    let at = c .before .before .before .args .at in
-    let f : Formed text at = sound-formed text at (c .before .before .before .pre .0) (c .before .before .before .pre .1) in
-    let l : afterPairs text at + 1 ≤ length text = formed-long text at (c .before .before .before .pre .0) f in
-    record { fits = omega arith }
-
-typed-line-requires : tie.Need-typed-line-requires
-typed-line-requires c κs =
-    let text = c .before .before .before .args .text .now in
-    let at = c .before .before .before .args .at in
-    let f : Formed text at = sound-formed text at (c .before .before .before .pre .0) (c .before .before .before .pre .1) in
-    let l : afterPairs text at + 1 ≤ length text = formed-long text at (c .before .before .before .pre .0) f in
-    (omega arith, c .before .pair .ensures .0)
-
-returns : tie.Need-returns
-returns c =
+add-end : tie.Need-add-end
+add-end c =
     let text = c .before .before .before .before .args .text .now in
     let at = c .before .before .before .before .args .at in
     let f : Formed text at = sound-formed text at (c .before .before .before .before .pre .0) (c .before .before .before .before .pre .1) in
     let l : afterPairs text at + 1 ≤ length text = formed-long text at (c .before .before .before .before .pre .0) f in
+    record { fits = omega arith }
+
+typed-line-requires : tie.Need-typed-line-requires
+typed-line-requires c κs =
+    let text = c .before .before .before .before .args .text .now in
+    let at = c .before .before .before .before .args .at in
+    let f : Formed text at = sound-formed text at (c .before .before .before .before .pre .0) (c .before .before .before .before .pre .1) in
+    let l : afterPairs text at + 1 ≤ length text = formed-long text at (c .before .before .before .before .pre .0) f in
+    (omega arith, c .before .pair .ensures .0, search needs)
+
+returns : tie.Need-returns
+returns c =
+    let text = c .before .before .before .before .before .args .text .now in
+    let at = c .before .before .before .before .before .args .at in
+    let f : Formed text at = sound-formed text at (c .before .before .before .before .before .pre .0) (c .before .before .before .before .before .pre .1) in
+    let l : afterPairs text at + 1 ≤ length text = formed-long text at (c .before .before .before .before .before .pre .0) f in
     let count = c .before .before .pair .result in
-    let o : Orderly text at count (at + 2 * count + 11 + c .before .ending .result) = rw (c .before .ending .ensures .0, c .before .before .pair .ensures .0) (orderly text at (c .before .before .before .before .pre .0) f) in
-    c .typed-line .ensures ∙ ap₂ asLine (sym (sound-typed text at count _ o (c .before .before .before .before .pre .1))) (o .ends)
+    let o : Orderly text at count (at + 2 * count + 11 + c .before .ending .result) = rw (c .before .ending .ensures .0, c .before .before .pair .ensures .0) (orderly text at (c .before .before .before .before .before .pre .0) f) in
+    c .typed-line .ensures ∙ ap₂ asLine (sym (sound-typed text at count _ o (c .before .before .before .before .before .pre .1))) (o .ends)
 
 pub parse-sound-spec : {M : Type 1} → statement M
 parse-sound-spec =
@@ -77,6 +77,6 @@ parse-sound-spec =
     add-after
     add-after-2
     ending-requires
-    add-typed-line
+    add-end
     typed-line-requires
     returns)

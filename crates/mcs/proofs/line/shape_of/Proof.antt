@@ -16,9 +16,9 @@ sub-rest c = search needs
 returns : tie.Need-returns
 unfolding ShapeIs
 returns c =
-    let text = c .before .before .args .text .now in
-    let at = c .before .before .args .at in
-    unformed-by text at (c .before .before .pre) (λ f. let l : afterPairs text at + 1 ≤ length text = formed-long text at (c .before .before .pre) f in omega arith)
+    let text = c .before .before .before .args .text .now in
+    let at = c .before .before .before .args .at in
+    unformed-by text at (c .before .before .before .pre .0) (λ f. let l : afterPairs text at + 1 ≤ length text = formed-long text at (c .before .before .before .pre .0) f in omega arith)
 
 shared-slice-read-if2 : tie.Need-shared-slice-read-if2
 shared-slice-read-if2 c = search needs
@@ -26,9 +26,9 @@ shared-slice-read-if2 c = search needs
 returns-2 : tie.Need-returns-2
 unfolding ShapeIs
 returns-2 c =
-    let text = c .before .before .before .before .args .text .now in
-    let at = c .before .before .before .before .args .at in
-    unformed-by text at (c .before .before .before .before .pre) (λ f. c .if2 .taken (f .colon))
+    let text = c .before .before .before .before .before .args .text .now in
+    let at = c .before .before .before .before .before .args .at in
+    unformed-by text at (c .before .before .before .before .before .pre .0) (λ f. c .if2 .taken (f .colon))
 
 add-pair : tie.Need-add-pair
 add-pair c = search needs
@@ -48,9 +48,9 @@ add-if3 c = search needs
 returns-3 : tie.Need-returns-3
 unfolding ShapeIs
 returns-3 c =
-    let text = c .before .before .before .before .before .before .args .text .now in
-    let at = c .before .before .before .before .before .before .args .at in
-    unformed-by text at (c .before .before .before .before .before .before .pre) (λ f. let l : afterPairs text at + 1 ≤ length text = formed-long text at (c .before .before .before .before .before .before .pre) f in omega arith)
+    let text = c .before .before .before .before .before .before .before .args .text .now in
+    let at = c .before .before .before .before .before .before .before .args .at in
+    unformed-by text at (c .before .before .before .before .before .before .before .pre .0) (λ f. let l : afterPairs text at + 1 ≤ length text = formed-long text at (c .before .before .before .before .before .before .before .pre .0) f in omega arith)
 
 add-sum-pairs : tie.Need-add-sum-pairs
 add-sum-pairs c = search needs
@@ -70,9 +70,9 @@ enum-told c = search needs
 returns-4 : tie.Need-returns-4
 unfolding ShapeIs
 returns-4 c =
-    let text = c .before .before .before .before .before .before .before .before .before .args .text .now in
-    let at = c .before .before .before .before .before .before .before .before .before .args .at in
-    unformed-by text at (c .before .before .before .before .before .before .before .before .before .pre) (λ f. summed-none text (at + 1) (c .before .before .before .before .pair .result + 5) _ (c .before .before .sum-pairs .ensures) (c .enum-told .given .1) (rw (c .before .before .before .before .pair .ensures .0) (f .pairs)))
+    let text = c .before .before .before .before .before .before .before .before .before .before .args .text .now in
+    let at = c .before .before .before .before .before .before .before .before .before .before .args .at in
+    unformed-by text at (c .before .before .before .before .before .before .before .before .before .before .pre .0) (λ f. summed-none text (at + 1) (c .before .before .before .before .pair .result + 5) _ (c .before .before .sum-pairs .ensures) (c .enum-told .given .1) (rw (c .before .before .before .before .pair .ensures .0) (f .pairs)))
 
 mul-after : tie.Need-mul-after
 mul-after c = search needs
@@ -89,23 +89,23 @@ ending-requires c κs = search needs
 returns-5 : tie.Need-returns-5
 unfolding ShapeIs
 returns-5 c =
-    let text = c .before .before .before .before .before .before .before .before .before .before .before .before .args .text .now in
-    let at = c .before .before .before .before .before .before .before .before .before .before .before .before .args .at in
-    unformed-by text at (c .before .before .before .before .before .before .before .before .before .before .before .before .pre) (λ f. let e : 1 ≤ endingAt text (afterPairs text at) = f .ending in
+    let text = c .before .before .before .before .before .before .before .before .before .before .before .before .before .args .text .now in
+    let at = c .before .before .before .before .before .before .before .before .before .before .before .before .before .args .at in
+    unformed-by text at (c .before .before .before .before .before .before .before .before .before .before .before .before .before .pre .0) (λ f. let e : 1 ≤ endingAt text (afterPairs text at) = f .ending in
     let n : c .before .ending .result ≡ endingAt text (afterPairs text at) = rw (c .before .before .before .before .before .before .before .pair .ensures .0) at (c .before .ending .ensures .0) in omega arith)
 
-add-t14 : tie.Need-add-t14
-add-t14 c = search needs
+add-end : tie.Need-add-end
+add-end c = search needs
 
 returns-6 : tie.Need-returns-6
 unfolding ShapeIs
 returns-6 c =
-    let text = c .before .before .before .before .before .before .before .before .before .before .before .before .args .text .now in
-    let at = c .before .before .before .before .before .before .before .before .before .before .before .before .args .at in
+    let text = c .before .before .before .before .before .before .before .before .before .before .before .before .before .args .text .now in
+    let at = c .before .before .before .before .before .before .before .before .before .before .before .before .before .args .at in
     let count = c .before .before .before .before .before .before .before .pair .result in
     let s : ArePairs text (at + 1) (count + 5) × (c .before .before .before .summed .given .0 .0 ≡ total (pairsAt text (at + 1) (count + 5))) =
     summed-pairs text (at + 1) (count + 5) _ _ (c .before .before .before .before .before .sum-pairs .ensures) (c .before .before .before .summed .given .1) in
-    (shaped text at count (c .before .ending .result) (c .before .before .before .before .before .before .before .before .before .before .before .before .pre) (c .before .before .before .before .before .before .before .before .if2 .left) (c .before .before .before .before .before .before .before .pair .ensures .0) (s .0) (c .before .ending .ensures .0) (c .if4 .left), s .1)
+    (shaped text at count (c .before .ending .result) (c .before .before .before .before .before .before .before .before .before .before .before .before .before .pre .0) (c .before .before .before .before .before .before .before .before .if2 .left) (c .before .before .before .before .before .before .before .pair .ensures .0) (s .0) (c .before .ending .ensures .0) (c .if4 .left), s .1)
 
 pub shape-of-spec : {M : Type 1} → statement M
 shape-of-spec =
@@ -132,5 +132,5 @@ shape-of-spec =
     add-after-2
     ending-requires
     returns-5
-    add-t14
+    add-end
     returns-6)

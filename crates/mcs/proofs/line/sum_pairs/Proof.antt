@@ -12,10 +12,10 @@ use Rattle.mcs.proofs.line.sum_pairs.Statement.{statement}
 use Rattle.mcs.proofs.line.sum_pairs.Tie as tie
 
 abbrev Inv-loop : tie.InvT-loop
-Inv-loop text at count sum₀ i₀ sum i = (i ≤ count) × ArePairs text at i × (sum ≡ total (pairsAt text at i)) × (sum ≤ 255 * i)
+Inv-loop values text at count sum₀ i₀ sum i = (i ≤ count) × ArePairs text at i × (sum ≡ total (pairsAt text at i)) × (sum ≤ 255 * i)
 
 abbrev μ-loop : tie.MeasureT-loop
-μ-loop text at count sum₀ i₀ sum i = count - i
+μ-loop values text at count sum₀ i₀ sum i = count - i
 
 loop-holds : tie.Need-loop-holds Inv-loop μ-loop
 unfolding total pairsAt
@@ -50,11 +50,11 @@ digit-requires-2 c κs = search needs
 
 returns : tie.Need-returns Inv-loop μ-loop
 unfolding Summed
-returns c = λ h. let k : IsPair (c .before .before .before .before .before .before .before .before .args .text .now) (c .before .before .before .before .before .before .before .before .args .at + 2 * c .before .before .before .before .before .before .loop .i) = h (c .before .before .before .before .before .before .loop .i) (omega arith) in omega arith
+returns c = λ h. let k : IsPair (c .before .before .before .before .before .before .before .before .before .args .text .now) (c .before .before .before .before .before .before .before .before .before .args .at + 2 * c .before .before .before .before .before .before .loop .i) = h (c .before .before .before .before .before .before .loop .i) (omega arith) in omega arith
 
 returns-2 : tie.Need-returns-2 Inv-loop μ-loop
 unfolding Summed
-returns-2 c = λ h. let k : IsPair (c .before .before .before .before .before .before .before .before .before .args .text .now) (c .before .before .before .before .before .before .before .before .before .args .at + 2 * c .before .before .before .before .before .before .before .loop .i) = h (c .before .before .before .before .before .before .before .loop .i) (omega arith) in omega arith
+returns-2 c = λ h. let k : IsPair (c .before .before .before .before .before .before .before .before .before .before .args .text .now) (c .before .before .before .before .before .before .before .before .before .before .args .at + 2 * c .before .before .before .before .before .before .before .loop .i) = h (c .before .before .before .before .before .before .before .loop .i) (omega arith) in omega arith
 
 mul-sum : tie.Need-mul-sum Inv-loop μ-loop
 mul-sum c = omega arith
@@ -73,8 +73,8 @@ loop-less c = omega arith
 
 loop-again : tie.Need-loop-again Inv-loop μ-loop
 loop-again c =
-    let text = c .before .before .before .before .before .before .before .before .before .args .text .now in
-    let at = c .before .before .before .before .before .before .before .before .before .args .at in
+    let text = c .before .before .before .before .before .before .before .before .before .before .args .text .now in
+    let at = c .before .before .before .before .before .before .before .before .before .before .args .at in
     let i = c .before .before .before .before .before .before .before .loop .i in
     let more : total (pairsAt text at (i + 1)) ≡ total (pairsAt text at i) + pairAt text (at + 2 * i) = total-pairs text i at in
     (omega arith, are-more text at i (c .before .before .before .before .before .before .before .loop .inv .1) (omega arith, omega arith), omega arith, omega arith)
@@ -82,7 +82,7 @@ loop-again c =
 returns-3 : tie.Need-returns-3 Inv-loop μ-loop
 unfolding Summed
 returns-3 c =
-    let e : c .before .loop .i ≡ c .before .before .before .args .count = omega arith in
+    let e : c .before .loop .i ≡ c .before .before .before .before .args .count = omega arith in
     (rw e at (c .before .loop .inv .1), rw e at (c .before .loop .inv .2))
 
 pub sum-pairs-spec : {M : Type 1} → statement M

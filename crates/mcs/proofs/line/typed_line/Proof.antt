@@ -36,66 +36,66 @@ add-address c = search needs
 returns : tie.Need-returns
 unfolding asLine
 returns c =
-    let text = c .before .before .before .before .before .before .args .text .now in
-    let at = c .before .before .before .before .before .before .args .at in
-    let count = c .before .before .before .before .before .before .args .count in
+    let text = c .before .before .before .before .before .before .before .args .text .now in
+    let at = c .before .before .before .before .before .before .before .args .at in
+    let count = c .before .before .before .before .before .before .before .args .count in
     rw (typed-empty (linePairs text at count) (omega (arith, type-is text at count)) (omega (arith, count-is text at count))) refl
 
 returns-2 : tie.Need-returns-2
 unfolding asLine
 returns-2 c =
-    let text = c .before .before .before .before .before .before .args .text .now in
-    let at = c .before .before .before .before .before .before .args .at in
-    let count = c .before .before .before .before .before .before .args .count in
+    let text = c .before .before .before .before .before .before .before .args .text .now in
+    let at = c .before .before .before .before .before .before .before .args .at in
+    let count = c .before .before .before .before .before .before .before .args .count in
     rw (typed-data (linePairs text at count) (omega (arith, type-is text at count)) (λ h. omega (arith, count-is text at count)))
-    (ap₂ (λ (a n : ℕ). Data a n (c .before .before .before .before .before .before .args .end)) (omega (arith, address-is text at count)) (sym (long-is text at count (c .before .before .before .before .before .before .pre .1))))
+    (ap₂ (λ (a n : ℕ). Data a n (c .before .before .before .before .before .before .before .args .end)) (omega (arith, address-is text at count)) (sym (long-is text at count (c .before .before .before .before .before .before .before .pre .1))))
 
 returns-3 : tie.Need-returns-3
 unfolding asLine
 returns-3 c =
-    let text = c .before .before .before .before .before .before .before .args .text .now in
-    let at = c .before .before .before .before .before .before .before .args .at in
-    let count = c .before .before .before .before .before .before .before .args .count in
+    let text = c .before .before .before .before .before .before .before .before .args .text .now in
+    let at = c .before .before .before .before .before .before .before .before .args .at in
+    let count = c .before .before .before .before .before .before .before .before .args .count in
     rw (typed-end-count (linePairs text at count) (omega (arith, type-is text at count)) (λ h. omega (arith, count-is text at count))) refl
 
 returns-4 : tie.Need-returns-4
 unfolding asLine
 returns-4 c =
-    let text = c .before .before .before .before .before .before .before .before .args .text .now in
-    let at = c .before .before .before .before .before .before .before .before .args .at in
-    let count = c .before .before .before .before .before .before .before .before .args .count in
+    let text = c .before .before .before .before .before .before .before .before .before .args .text .now in
+    let at = c .before .before .before .before .before .before .before .before .before .args .at in
+    let count = c .before .before .before .before .before .before .before .before .before .args .count in
     rw (typed-end-address (linePairs text at count) (omega (arith, type-is text at count)) (omega (arith, count-is text at count)) (λ h. omega (arith, address-is text at count))) refl
 
 returns-5 : tie.Need-returns-5
 unfolding asLine
 returns-5 c =
-    let text = c .before .before .before .before .before .before .before .before .args .text .now in
-    let at = c .before .before .before .before .before .before .before .before .args .at in
-    let count = c .before .before .before .before .before .before .before .before .args .count in
+    let text = c .before .before .before .before .before .before .before .before .before .args .text .now in
+    let at = c .before .before .before .before .before .before .before .before .before .args .at in
+    let count = c .before .before .before .before .before .before .before .before .before .args .count in
     rw (typed-end (linePairs text at count) (omega (arith, type-is text at count)) (omega (arith, count-is text at count)) (omega (arith, address-is text at count))) refl
 
 returns-6 : tie.Need-returns-6
 unfolding asLine
 returns-6 c =
-    let text = c .before .before .before .before .before .before .before .args .text .now in
-    let at = c .before .before .before .before .before .before .before .args .at in
-    let count = c .before .before .before .before .before .before .before .args .count in
+    let text = c .before .before .before .before .before .before .before .before .args .text .now in
+    let at = c .before .before .before .before .before .before .before .before .args .at in
+    let count = c .before .before .before .before .before .before .before .before .args .count in
     rw (typed-other (linePairs text at count) (λ h. omega (arith, type-is text at count)) (λ h. omega (arith, type-is text at count)) (λ h. omega (arith, type-is text at count))) refl
 
 returns-7 : tie.Need-returns-7
 unfolding asLine
 returns-7 c =
-    let text = c .before .before .before .before .before .before .before .before .args .text .now in
-    let at = c .before .before .before .before .before .before .before .before .args .at in
-    let count = c .before .before .before .before .before .before .before .before .args .count in
+    let text = c .before .before .before .before .before .before .before .before .before .args .text .now in
+    let at = c .before .before .before .before .before .before .before .before .before .args .at in
+    let count = c .before .before .before .before .before .before .before .before .before .args .count in
     rw (typed-upper-count (linePairs text at count) (omega (arith, type-is text at count)) (λ h. omega (arith, count-is text at count))) refl
 
 returns-8 : tie.Need-returns-8
 unfolding asLine
 returns-8 c =
-    let text = c .before .before .before .before .before .before .before .before .before .args .text .now in
-    let at = c .before .before .before .before .before .before .before .before .before .args .at in
-    let count = c .before .before .before .before .before .before .before .before .before .args .count in
+    let text = c .before .before .before .before .before .before .before .before .before .before .args .text .now in
+    let at = c .before .before .before .before .before .before .before .before .before .before .args .at in
+    let count = c .before .before .before .before .before .before .before .before .before .before .args .count in
     rw (typed-upper-address (linePairs text at count) (omega (arith, type-is text at count)) (omega (arith, count-is text at count)) (λ h. omega (arith, address-is text at count))) refl
 
 add-pair-4 : tie.Need-add-pair-4
@@ -104,8 +104,8 @@ add-pair-4 c = search needs
 pair-requires-4 : tie.Need-pair-requires-4
 pair-requires-4 c κs = search needs
 
-mul-t9 : tie.Need-mul-t9
-mul-t9 c = search needs
+mul-half : tie.Need-mul-half
+mul-half c = search needs
 
 add-pair-5 : tie.Need-add-pair-5
 add-pair-5 c = search needs
@@ -113,17 +113,17 @@ add-pair-5 c = search needs
 pair-requires-5 : tie.Need-pair-requires-5
 pair-requires-5 c κs = search needs
 
-add-t15 : tie.Need-add-t15
-add-t15 c = search needs
+add-half : tie.Need-add-half
+add-half c = search needs
 
 returns-9 : tie.Need-returns-9
 unfolding asLine
 returns-9 c =
-    let text = c .before .before .before .before .before .before .before .before .before .before .before .args .text .now in
-    let at = c .before .before .before .before .before .before .before .before .before .before .before .args .at in
-    let count = c .before .before .before .before .before .before .before .before .before .before .before .args .count in
+    let text = c .before .before .before .before .before .before .before .before .before .before .before .before .args .text .now in
+    let at = c .before .before .before .before .before .before .before .before .before .before .before .before .args .at in
+    let count = c .before .before .before .before .before .before .before .before .before .before .before .before .args .count in
     rw (typed-upper (linePairs text at count) (omega (arith, type-is text at count)) (omega (arith, count-is text at count)) (omega (arith, address-is text at count)))
-    (ap (λ (h : ℕ). Upper h (c .before .before .before .before .before .before .before .before .before .before .before .args .end)) (omega (arith, half-is text at count (omega arith))))
+    (ap (λ (h : ℕ). Upper h (c .before .before .before .before .before .before .before .before .before .before .before .before .args .end)) (omega (arith, half-is text at count (omega arith))))
 
 pub typed-line-spec : {M : Type 1} → statement M
 typed-line-spec =
@@ -147,8 +147,8 @@ typed-line-spec =
     returns-8
     add-pair-4
     pair-requires-4
-    mul-t9
+    mul-half
     add-pair-5
     pair-requires-5
-    add-t15
+    add-half
     returns-9)

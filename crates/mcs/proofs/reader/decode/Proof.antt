@@ -14,15 +14,15 @@ use Rattle.mcs.proofs.reader.decode.Statement.{statement}
 use Rattle.mcs.proofs.reader.decode.Tie as tie
 
 abbrev Inv-loop : tie.InvT-loop
-Inv-loop text from out₀ to count i₀ out i = (i ≤ count) × (out ≡ paste out₀ to (pairsAt text from count) i)
+Inv-loop values text from out₀ to count i₀ out i = (i ≤ count) × (out ≡ paste out₀ to (pairsAt text from count) i)
 
 abbrev μ-loop : tie.MeasureT-loop
-μ-loop text from out₀ to count i₀ out i = count - i
+μ-loop values text from out₀ to count i₀ out i = count - i
 
 loop-holds : tie.Need-loop-holds Inv-loop μ-loop
 loop-holds c = (
   omega arith,
-  paste-zero (c .before .before .args .out .now) (c .before .before .args .to) (pairsAt (c .before .before .args .text .now) (c .before .before .args .from) (c .before .before .args .count)),
+  paste-zero (c .before .before .before .args .out .now) (c .before .before .before .args .to) (pairsAt (c .before .before .before .args .text .now) (c .before .before .before .args .from) (c .before .before .before .args .count)),
 )
 
 mul-pair : tie.Need-mul-pair Inv-loop μ-loop
@@ -32,7 +32,7 @@ add-pair : tie.Need-add-pair Inv-loop μ-loop
 add-pair c = omega arith
 
 pair-requires : tie.Need-pair-requires Inv-loop μ-loop
-pair-requires c κs = omega arith
+pair-requires c κs = (omega arith, search needs)
 
 cast-out : tie.Need-cast-out Inv-loop μ-loop
 cast-out c = search needs
@@ -42,11 +42,11 @@ add-out c = omega arith
 
 slice-write-out : tie.Need-slice-write-out Inv-loop μ-loop
 slice-write-out c =
-    let text = c .before .before .before .before .before .args .text .now in
-    let from = c .before .before .before .before .before .args .from in
-    let out = c .before .before .before .before .before .args .out .now in
-    let to = c .before .before .before .before .before .args .to in
-    let count = c .before .before .before .before .before .args .count in
+    let text = c .before .before .before .before .before .before .args .text .now in
+    let from = c .before .before .before .before .before .before .args .from in
+    let out = c .before .before .before .before .before .before .args .out .now in
+    let to = c .before .before .before .before .before .before .args .to in
+    let count = c .before .before .before .before .before .before .args .count in
     let i = c .before .before .loop .i in
     let long : length (pairsAt text from count) ≡ count = length-pairs text count from in
     let l : length (c .before .before .loop .out) ≡ length out = ap (λ (l : List ℕ). length l) (c .before .before .loop .inv .1) ∙ length-paste out to (pairsAt text from count) i (omega arith) (omega arith) in
@@ -60,32 +60,32 @@ loop-less c = omega arith
 
 loop-again : tie.Need-loop-again Inv-loop μ-loop
 loop-again c =
-    let text = c .before .before .before .before .before .args .text .now in
-    let from = c .before .before .before .before .before .args .from in
-    let out = c .before .before .before .before .before .args .out .now in
-    let to = c .before .before .before .before .before .args .to in
-    let count = c .before .before .before .before .before .args .count in
+    let text = c .before .before .before .before .before .before .args .text .now in
+    let from = c .before .before .before .before .before .before .args .from in
+    let out = c .before .before .before .before .before .before .args .out .now in
+    let to = c .before .before .before .before .before .before .args .to in
+    let count = c .before .before .before .before .before .before .args .count in
     let i = c .before .before .loop .i in
     let long : length (pairsAt text from count) ≡ count = length-pairs text count from in
-    let p : IsPair text (from + 2 * i) = c .before .before .before .before .before .pre .2 i (omega arith) in
+    let p : IsPair text (from + 2 * i) = c .before .before .before .before .before .before .pre .2 i (omega arith) in
     let v : c .pair .result % 256 ≡ getD (pairsAt text from count) i 0 =
     mod-eq-of-lt (omega arith) ∙ c .pair .ensures .0 ∙ sym (getD-pairs text i count from (omega arith)) in
     (omega arith, rw (c .before .before .loop .inv .1, v, add-one) (paste-suc out to (pairsAt text from count) i 0 (omega arith) (omega arith)))
 
 same-length : tie.Need-same-length Inv-loop μ-loop
 same-length c =
-    let text = c .before .before .before .before .args .text .now in
-    let from = c .before .before .before .before .args .from in
-    let out = c .before .before .before .before .args .out .now in
-    let to = c .before .before .before .before .args .to in
-    let count = c .before .before .before .before .args .count in
+    let text = c .before .before .before .before .before .args .text .now in
+    let from = c .before .before .before .before .before .args .from in
+    let out = c .before .before .before .before .before .args .out .now in
+    let to = c .before .before .before .before .before .args .to in
+    let count = c .before .before .before .before .before .args .count in
     let i = c .before .loop .i in
     let long : length (pairsAt text from count) ≡ count = length-pairs text count from in
     ap (λ (l : List ℕ). length l) (c .before .loop .inv .1) ∙ length-paste out to (pairsAt text from count) i (omega arith) (omega arith)
 
 returns : tie.Need-returns Inv-loop μ-loop
 returns c =
-    let e : c .before .loop .i ≡ c .before .before .before .before .args .count = omega arith in
+    let e : c .before .loop .i ≡ c .before .before .before .before .before .args .count = omega arith in
     rw e at (c .before .loop .inv .1)
 
 pub decode-spec : {M : Type 1} → statement M

@@ -12,37 +12,37 @@ use Rattle.mcs.proofs.reader.fill.Statement.{statement}
 use Rattle.mcs.proofs.reader.fill.Tie as tie
 
 abbrev Inv-loop : tie.InvT-loop
-Inv-loop text out₀ at₀ next₀ out at next = (at ≤ length text) × Filled text out₀ out at next
+Inv-loop values text out₀ at₀ next₀ out at next = (at ≤ length text) × Filled text out₀ out at next
 
 abbrev μ-loop : tie.MeasureT-loop
-μ-loop text out₀ at₀ next₀ out at next = length text - at
+μ-loop values text out₀ at₀ next₀ out at next = length text - at
 
 loop-holds : tie.Need-loop-holds Inv-loop μ-loop
-loop-holds c = (omega arith, fill-start (c .before .before .args .text .now) (c .before .before .args .out .now))
+loop-holds c = (omega arith, fill-start (c .before .before .before .args .text .now) (c .before .before .before .args .out .now))
 
 parse-sound-requires : tie.Need-parse-sound-requires Inv-loop μ-loop
 parse-sound-requires c κs =
-    let text = c .before .before .before .before .args .text .now in
-    let before = c .before .before .before .before .args .out .now in
+    let text = c .before .before .before .before .before .args .text .now in
+    let before = c .before .before .before .before .before .args .out .now in
     let out = c .before .loop .out in
     let at = c .before .loop .at in
     let next = c .before .loop .next in
     let filled : Filled text before out at next = c .before .loop .inv .1 in
-    let fits : Fits (readText text) (length before) = c .before .before .before .before .pre in
-    (omega arith, fill-sound text before out at next filled fits (omega arith))
+    let fits : Fits (readText text) (length before) = c .before .before .before .before .before .pre .0 in
+    (omega arith, fill-sound text before out at next filled fits (omega arith), search needs)
 
 enum-known-read : tie.Need-enum-known-read Inv-loop μ-loop
 enum-known-read c = search needs
 
 add-decode : tie.Need-add-decode Inv-loop μ-loop
 add-decode c =
-    let text = c .before .before .before .before .before .before .before .before .args .text .now in
-    let before = c .before .before .before .before .before .before .before .before .args .out .now in
+    let text = c .before .before .before .before .before .before .before .before .before .args .text .now in
+    let before = c .before .before .before .before .before .before .before .before .before .args .out .now in
     let out = c .before .before .before .before .before .loop .out in
     let at = c .before .before .before .before .before .loop .at in
     let next = c .before .before .before .before .before .loop .next in
     let filled : Filled text before out at next = c .before .before .before .before .before .loop .inv .1 in
-    let fits : Fits (readText text) (length before) = c .before .before .before .before .before .before .before .before .pre in
+    let fits : Fits (readText text) (length before) = c .before .before .before .before .before .before .before .before .before .pre .0 in
     let inside : at < length text = omega arith in
     let is = c .before .before .before .parse-sound .ensures in
     let told = c .before .read .given .1 in
@@ -54,13 +54,13 @@ add-decode c =
 
 decode-requires : tie.Need-decode-requires Inv-loop μ-loop
 decode-requires c κs =
-    let text = c .before .before .before .before .before .before .before .before .before .args .text .now in
-    let before = c .before .before .before .before .before .before .before .before .before .args .out .now in
+    let text = c .before .before .before .before .before .before .before .before .before .before .args .text .now in
+    let before = c .before .before .before .before .before .before .before .before .before .before .args .out .now in
     let out = c .before .before .before .before .before .before .loop .out in
     let at = c .before .before .before .before .before .before .loop .at in
     let next = c .before .before .before .before .before .before .loop .next in
     let filled : Filled text before out at next = c .before .before .before .before .before .before .loop .inv .1 in
-    let fits : Fits (readText text) (length before) = c .before .before .before .before .before .before .before .before .before .pre in
+    let fits : Fits (readText text) (length before) = c .before .before .before .before .before .before .before .before .before .before .pre .0 in
     let inside : at < length text = omega arith in
     let is = c .before .before .before .before .parse-sound .ensures in
     let told = c .before .before .read .given .1 in
@@ -70,17 +70,17 @@ decode-requires c κs =
     let long : (at + 2 * count + 12 ≤ end) × (end ≤ length text) = fill-long text before out at next filled fits inside _ is address count end told in
     let room : next + count ≤ length before = fill-fits text before out at next filled fits inside _ is address count end told in
     let same : length out ≡ length before = fill-length text before out at next filled fits in
-    (omega arith, omega arith, fill-pairs text before out at next filled fits inside _ is address count end told)
+    (omega arith, omega arith, fill-pairs text before out at next filled fits inside _ is address count end told, search needs)
 
 add-next : tie.Need-add-next Inv-loop μ-loop
 add-next c =
-    let text = c .before .before .before .before .before .before .before .before .before .before .before .before .args .text .now in
-    let before = c .before .before .before .before .before .before .before .before .before .before .before .before .args .out .now in
+    let text = c .before .before .before .before .before .before .before .before .before .before .before .before .before .args .text .now in
+    let before = c .before .before .before .before .before .before .before .before .before .before .before .before .before .args .out .now in
     let out = c .before .before .before .before .before .before .before .before .before .loop .out in
     let at = c .before .before .before .before .before .before .before .before .before .loop .at in
     let next = c .before .before .before .before .before .before .before .before .before .loop .next in
     let filled : Filled text before out at next = c .before .before .before .before .before .before .before .before .before .loop .inv .1 in
-    let fits : Fits (readText text) (length before) = c .before .before .before .before .before .before .before .before .before .before .before .before .pre in
+    let fits : Fits (readText text) (length before) = c .before .before .before .before .before .before .before .before .before .before .before .before .before .pre .0 in
     let inside : at < length text = omega arith in
     let is = c .before .before .before .before .before .before .before .parse-sound .ensures in
     let told = c .before .before .before .before .before .read .given .1 in
@@ -93,13 +93,13 @@ add-next c =
 
 loop-less : tie.Need-loop-less Inv-loop μ-loop
 loop-less c =
-    let text = c .before .before .before .before .before .before .before .before .before .before .before .before .args .text .now in
-    let before = c .before .before .before .before .before .before .before .before .before .before .before .before .args .out .now in
+    let text = c .before .before .before .before .before .before .before .before .before .before .before .before .before .args .text .now in
+    let before = c .before .before .before .before .before .before .before .before .before .before .before .before .before .args .out .now in
     let out = c .before .before .before .before .before .before .before .before .before .loop .out in
     let at = c .before .before .before .before .before .before .before .before .before .loop .at in
     let next = c .before .before .before .before .before .before .before .before .before .loop .next in
     let filled : Filled text before out at next = c .before .before .before .before .before .before .before .before .before .loop .inv .1 in
-    let fits : Fits (readText text) (length before) = c .before .before .before .before .before .before .before .before .before .before .before .before .pre in
+    let fits : Fits (readText text) (length before) = c .before .before .before .before .before .before .before .before .before .before .before .before .before .pre .0 in
     let inside : at < length text = omega arith in
     let is = c .before .before .before .before .before .before .before .parse-sound .ensures in
     let told = c .before .before .before .before .before .read .given .1 in
@@ -111,13 +111,13 @@ loop-less c =
 
 loop-again : tie.Need-loop-again Inv-loop μ-loop
 loop-again c =
-    let text = c .before .before .before .before .before .before .before .before .before .before .before .before .args .text .now in
-    let before = c .before .before .before .before .before .before .before .before .before .before .before .before .args .out .now in
+    let text = c .before .before .before .before .before .before .before .before .before .before .before .before .before .args .text .now in
+    let before = c .before .before .before .before .before .before .before .before .before .before .before .before .before .args .out .now in
     let out = c .before .before .before .before .before .before .before .before .before .loop .out in
     let at = c .before .before .before .before .before .before .before .before .before .loop .at in
     let next = c .before .before .before .before .before .before .before .before .before .loop .next in
     let filled : Filled text before out at next = c .before .before .before .before .before .before .before .before .before .loop .inv .1 in
-    let fits : Fits (readText text) (length before) = c .before .before .before .before .before .before .before .before .before .before .before .before .pre in
+    let fits : Fits (readText text) (length before) = c .before .before .before .before .before .before .before .before .before .before .before .before .before .pre .0 in
     let inside : at < length text = omega arith in
     let is = c .before .before .before .before .before .before .before .parse-sound .ensures in
     let told = c .before .before .before .before .before .read .given .1 in
@@ -132,13 +132,13 @@ enum-known-read-2 c = search needs
 
 loop-less-2 : tie.Need-loop-less-2 Inv-loop μ-loop
 loop-less-2 c =
-    let text = c .before .before .before .before .before .before .before .before .args .text .now in
-    let before = c .before .before .before .before .before .before .before .before .args .out .now in
+    let text = c .before .before .before .before .before .before .before .before .before .args .text .now in
+    let before = c .before .before .before .before .before .before .before .before .before .args .out .now in
     let out = c .before .before .before .before .before .loop .out in
     let at = c .before .before .before .before .before .loop .at in
     let next = c .before .before .before .before .before .loop .next in
     let filled : Filled text before out at next = c .before .before .before .before .before .loop .inv .1 in
-    let fits : Fits (readText text) (length before) = c .before .before .before .before .before .before .before .before .pre in
+    let fits : Fits (readText text) (length before) = c .before .before .before .before .before .before .before .before .before .pre .0 in
     let inside : at < length text = omega arith in
     let is = c .before .before .before .parse-sound .ensures in
     let told = c .before .read2 .given .1 in
@@ -149,13 +149,13 @@ loop-less-2 c =
 
 loop-again-2 : tie.Need-loop-again-2 Inv-loop μ-loop
 loop-again-2 c =
-    let text = c .before .before .before .before .before .before .before .before .args .text .now in
-    let before = c .before .before .before .before .before .before .before .before .args .out .now in
+    let text = c .before .before .before .before .before .before .before .before .before .args .text .now in
+    let before = c .before .before .before .before .before .before .before .before .before .args .out .now in
     let out = c .before .before .before .before .before .loop .out in
     let at = c .before .before .before .before .before .loop .at in
     let next = c .before .before .before .before .before .loop .next in
     let filled : Filled text before out at next = c .before .before .before .before .before .loop .inv .1 in
-    let fits : Fits (readText text) (length before) = c .before .before .before .before .before .before .before .before .pre in
+    let fits : Fits (readText text) (length before) = c .before .before .before .before .before .before .before .before .before .pre .0 in
     let inside : at < length text = omega arith in
     let is = c .before .before .before .parse-sound .ensures in
     let told = c .before .read2 .given .1 in
@@ -169,24 +169,24 @@ enum-told c = search needs
 
 same-length : tie.Need-same-length Inv-loop μ-loop
 same-length c =
-    let text = c .before .before .before .before .before .before .before .args .text .now in
-    let before = c .before .before .before .before .before .before .before .args .out .now in
+    let text = c .before .before .before .before .before .before .before .before .args .text .now in
+    let before = c .before .before .before .before .before .before .before .before .args .out .now in
     let out = c .before .before .before .before .loop .out in
     let at = c .before .before .before .before .loop .at in
     let next = c .before .before .before .before .loop .next in
     let filled : Filled text before out at next = c .before .before .before .before .loop .inv .1 in
-    let fits : Fits (readText text) (length before) = c .before .before .before .before .before .before .before .pre in
+    let fits : Fits (readText text) (length before) = c .before .before .before .before .before .before .before .before .pre .0 in
     fill-length text before out at next filled fits
 
 returns : tie.Need-returns Inv-loop μ-loop
 returns c =
-    let text = c .before .before .before .before .before .before .before .args .text .now in
-    let before = c .before .before .before .before .before .before .before .args .out .now in
+    let text = c .before .before .before .before .before .before .before .before .args .text .now in
+    let before = c .before .before .before .before .before .before .before .before .args .out .now in
     let out = c .before .before .before .before .loop .out in
     let at = c .before .before .before .before .loop .at in
     let next = c .before .before .before .before .loop .next in
     let filled : Filled text before out at next = c .before .before .before .before .loop .inv .1 in
-    let fits : Fits (readText text) (length before) = c .before .before .before .before .before .before .before .pre in
+    let fits : Fits (readText text) (length before) = c .before .before .before .before .before .before .before .before .pre .0 in
     let inside : at < length text = omega arith in
     let is = c .before .before .parse-sound .ensures in
     fill-end text before out at next filled fits inside _ is _ (c .enum-told .given .1)
@@ -196,48 +196,48 @@ enum-told-2 c = search needs
 
 same-length-2 : tie.Need-same-length-2 Inv-loop μ-loop
 same-length-2 c =
-    let text = c .before .before .before .before .before .before .before .args .text .now in
-    let before = c .before .before .before .before .before .before .before .args .out .now in
+    let text = c .before .before .before .before .before .before .before .before .args .text .now in
+    let before = c .before .before .before .before .before .before .before .before .args .out .now in
     let out = c .before .before .before .before .loop .out in
     let at = c .before .before .before .before .loop .at in
     let next = c .before .before .before .before .loop .next in
     let filled : Filled text before out at next = c .before .before .before .before .loop .inv .1 in
-    let fits : Fits (readText text) (length before) = c .before .before .before .before .before .before .before .pre in
+    let fits : Fits (readText text) (length before) = c .before .before .before .before .before .before .before .before .pre .0 in
     fill-length text before out at next filled fits
 
 returns-2 : tie.Need-returns-2 Inv-loop μ-loop
 returns-2 c =
-    let text = c .before .before .before .before .before .before .before .args .text .now in
-    let before = c .before .before .before .before .before .before .before .args .out .now in
+    let text = c .before .before .before .before .before .before .before .before .args .text .now in
+    let before = c .before .before .before .before .before .before .before .before .args .out .now in
     let out = c .before .before .before .before .loop .out in
     let at = c .before .before .before .before .loop .at in
     let next = c .before .before .before .before .loop .next in
     let filled : Filled text before out at next = c .before .before .before .before .loop .inv .1 in
-    let fits : Fits (readText text) (length before) = c .before .before .before .before .before .before .before .pre in
+    let fits : Fits (readText text) (length before) = c .before .before .before .before .before .before .before .before .pre .0 in
     let inside : at < length text = omega arith in
     let is = c .before .before .parse-sound .ensures in
     absurd (fill-refused text before out at next filled fits inside _ is _ (c .enum-told2 .given .1))
 
 same-length-3 : tie.Need-same-length-3 Inv-loop μ-loop
 same-length-3 c =
-    let text = c .before .before .before .before .args .text .now in
-    let before = c .before .before .before .before .args .out .now in
+    let text = c .before .before .before .before .before .args .text .now in
+    let before = c .before .before .before .before .before .args .out .now in
     let out = c .before .loop .out in
     let at = c .before .loop .at in
     let next = c .before .loop .next in
     let filled : Filled text before out at next = c .before .loop .inv .1 in
-    let fits : Fits (readText text) (length before) = c .before .before .before .before .pre in
+    let fits : Fits (readText text) (length before) = c .before .before .before .before .before .pre .0 in
     fill-length text before out at next filled fits
 
 returns-3 : tie.Need-returns-3 Inv-loop μ-loop
 returns-3 c =
-    let text = c .before .before .before .before .args .text .now in
-    let before = c .before .before .before .before .args .out .now in
+    let text = c .before .before .before .before .before .args .text .now in
+    let before = c .before .before .before .before .before .args .out .now in
     let out = c .before .loop .out in
     let at = c .before .loop .at in
     let next = c .before .loop .next in
     let filled : Filled text before out at next = c .before .loop .inv .1 in
-    let fits : Fits (readText text) (length before) = c .before .before .before .before .pre in
+    let fits : Fits (readText text) (length before) = c .before .before .before .before .before .pre .0 in
     absurd (fill-none text before out at next filled fits (omega arith))
 
 pub fill-spec : {M : Type 1} → statement M

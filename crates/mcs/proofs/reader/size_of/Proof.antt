@@ -14,10 +14,10 @@ use Rattle.mcs.proofs.reader.size_of.Statement.{statement}
 use Rattle.mcs.proofs.reader.size_of.Tie as tie
 
 abbrev Inv-loop : tie.InvT-loop
-Inv-loop text at₀ upper₀ next₀ at upper next = (at ≤ length text) × (next ≤ at) × Reached text at upper next
+Inv-loop values text at₀ upper₀ next₀ at upper next = (at ≤ length text) × (next ≤ at) × Reached text at upper next
 
 abbrev μ-loop : tie.MeasureT-loop
-μ-loop text at₀ upper₀ next₀ at upper next = length text - at
+μ-loop values text at₀ upper₀ next₀ at upper next = length text - at
 
 loop-holds : tie.Need-loop-holds Inv-loop μ-loop
 loop-holds c = (omega arith, omega arith, ([], (refl, refl)))
@@ -30,7 +30,7 @@ enum-known-read c = search needs
 
 follows-on-requires : tie.Need-follows-on-requires Inv-loop μ-loop
 follows-on-requires c κs =
-    let text = c .before .before .before .before .before .before .before .args .text .now in
+    let text = c .before .before .before .before .before .before .before .before .args .text .now in
     let at = c .before .before .before .before .before .loop .at in
     let upper = c .before .before .before .before .before .loop .upper in
     let next = c .before .before .before .before .before .loop .next in
@@ -47,7 +47,7 @@ follows-on-requires c κs =
 returns : tie.Need-returns Inv-loop μ-loop
 unfolding sizeOf
 returns c =
-    let text = c .before .before .before .before .before .before .before .before .before .args .text .now in
+    let text = c .before .before .before .before .before .before .before .before .before .before .args .text .now in
     let at = c .before .before .before .before .before .before .before .loop .at in
     let upper = c .before .before .before .before .before .before .before .loop .upper in
     let next = c .before .before .before .before .before .before .before .loop .next in
@@ -62,7 +62,7 @@ returns c =
 
 add-next : tie.Need-add-next Inv-loop μ-loop
 add-next c =
-    let text = c .before .before .before .before .before .before .before .before .before .args .text .now in
+    let text = c .before .before .before .before .before .before .before .before .before .before .args .text .now in
     let at = c .before .before .before .before .before .before .before .loop .at in
     let upper = c .before .before .before .before .before .before .before .loop .upper in
     let next = c .before .before .before .before .before .before .before .loop .next in
@@ -78,7 +78,7 @@ add-next c =
 
 loop-less : tie.Need-loop-less Inv-loop μ-loop
 loop-less c =
-    let text = c .before .before .before .before .before .before .before .before .before .args .text .now in
+    let text = c .before .before .before .before .before .before .before .before .before .before .args .text .now in
     let at = c .before .before .before .before .before .before .before .loop .at in
     let upper = c .before .before .before .before .before .before .before .loop .upper in
     let next = c .before .before .before .before .before .before .before .loop .next in
@@ -94,7 +94,7 @@ loop-less c =
 
 loop-again : tie.Need-loop-again Inv-loop μ-loop
 loop-again c =
-    let text = c .before .before .before .before .before .before .before .before .before .args .text .now in
+    let text = c .before .before .before .before .before .before .before .before .before .before .args .text .now in
     let at = c .before .before .before .before .before .before .before .loop .at in
     let upper = c .before .before .before .before .before .before .before .loop .upper in
     let next = c .before .before .before .before .before .before .before .loop .next in
@@ -113,7 +113,7 @@ enum-known-read-2 c = search needs
 
 loop-less-2 : tie.Need-loop-less-2 Inv-loop μ-loop
 loop-less-2 c =
-    let text = c .before .before .before .before .before .before .before .args .text .now in
+    let text = c .before .before .before .before .before .before .before .before .args .text .now in
     let at = c .before .before .before .before .before .loop .at in
     let upper = c .before .before .before .before .before .loop .upper in
     let next = c .before .before .before .before .before .loop .next in
@@ -128,7 +128,7 @@ loop-less-2 c =
 
 loop-again-2 : tie.Need-loop-again-2 Inv-loop μ-loop
 loop-again-2 c =
-    let text = c .before .before .before .before .before .before .before .args .text .now in
+    let text = c .before .before .before .before .before .before .before .before .args .text .now in
     let at = c .before .before .before .before .before .loop .at in
     let upper = c .before .before .before .before .before .loop .upper in
     let next = c .before .before .before .before .before .loop .next in
@@ -147,7 +147,7 @@ enum-known-read-3 c = search needs
 returns-2 : tie.Need-returns-2 Inv-loop μ-loop
 unfolding sizeOf
 returns-2 c =
-    let text = c .before .before .before .before .before .before .before .before .args .text .now in
+    let text = c .before .before .before .before .before .before .before .before .before .args .text .now in
     let at = c .before .before .before .before .before .before .loop .at in
     let upper = c .before .before .before .before .before .before .loop .upper in
     let next = c .before .before .before .before .before .before .loop .next in
@@ -161,7 +161,7 @@ returns-2 c =
 returns-3 : tie.Need-returns-3 Inv-loop μ-loop
 unfolding sizeOf
 returns-3 c =
-    let text = c .before .before .before .before .before .before .before .before .args .text .now in
+    let text = c .before .before .before .before .before .before .before .before .before .args .text .now in
     let at = c .before .before .before .before .before .before .loop .at in
     let upper = c .before .before .before .before .before .before .loop .upper in
     let next = c .before .before .before .before .before .before .loop .next in
@@ -179,7 +179,7 @@ enum-known-read-4 c = search needs
 returns-4 : tie.Need-returns-4 Inv-loop μ-loop
 unfolding sizeOf
 returns-4 c =
-    let text = c .before .before .before .before .before .before .before .args .text .now in
+    let text = c .before .before .before .before .before .before .before .before .args .text .now in
     let at = c .before .before .before .before .before .loop .at in
     let upper = c .before .before .before .before .before .loop .upper in
     let next = c .before .before .before .before .before .loop .next in
@@ -193,7 +193,7 @@ returns-4 c =
 returns-5 : tie.Need-returns-5 Inv-loop μ-loop
 unfolding sizeOf
 returns-5 c =
-    let text = c .before .before .before .args .text .now in
+    let text = c .before .before .before .before .args .text .now in
     let at = c .before .loop .at in
     let reached : Reached text at (c .before .loop .upper) (c .before .loop .next) = c .before .loop .inv .2 in
     rw (sym (reached .1 .1) ∙ at-none text at (c .before .loop .upper) (reached .0) (omega arith)) refl
