@@ -5,3 +5,4 @@ pub mod ShapeLaws
 pub mod ReadingLaws
 pub mod FillLaws
 pub mod AnswerLaws
+pub mod TextLaws

@@ -36,7 +36,7 @@ digit-lf : (c : ℕ) → eqb c LF ≡ true → digitOf c < 16 → ⊥
 unfolding digitOf placeIn digits
 digit-lf c e h = let k : digitOf c ≡ 16 = ap digitOf (eqb-true c LF e) in omega arith
 
-not-ending : (a b : ℕ) (cs : List ℕ) → eqb b LF ≡ false → isEnding (a ∷ b ∷ cs) ≡ false
+pub not-ending : (a b : ℕ) (cs : List ℕ) → eqb b LF ≡ false → isEnding (a ∷ b ∷ cs) ≡ false
 unfolding isEnding
 not-ending a b [] e = rw e (go (eqb a CR))
   where
@@ -57,7 +57,7 @@ spelled-end [] e = absurd (empty-ends e)
 spelled-end (a ∷ []) e = rw e
 spelled-end (a ∷ b ∷ cs) e = rw e
 
-spelled-one : (a : ℕ) → isEnding (a ∷ []) ≡ false → spelledBy (a ∷ []) ≡ Broken
+pub spelled-one : (a : ℕ) → isEnding (a ∷ []) ≡ false → spelledBy (a ∷ []) ≡ Broken
 unfolding spelledBy ask
 spelled-one a e = rw e
 
@@ -65,7 +65,7 @@ pub spelled-pair : (a b : ℕ) (cs : List ℕ) → isEnding (a ∷ b ∷ cs) ≡
 unfolding spelledBy ask
 spelled-pair a b cs e f g = rw (e, f, g) refl
 
-spelled-other : (a b : ℕ) (cs : List ℕ) → isEnding (a ∷ b ∷ cs) ≡ false → (isDigit a && isDigit b) ≡ false → spelledBy (a ∷ b ∷ cs) ≡ Broken
+pub spelled-other : (a b : ℕ) (cs : List ℕ) → isEnding (a ∷ b ∷ cs) ≡ false → (isDigit a && isDigit b) ≡ false → spelledBy (a ∷ b ∷ cs) ≡ Broken
 unfolding spelledBy ask
 spelled-other a b cs e f = rw (e, f) refl
 
@@ -127,10 +127,10 @@ no-cr : (a b : ℕ) → eqb a CR ≡ false → isEnding (a ∷ b ∷ []) ≡ fal
 unfolding isEnding
 no-cr a b e = rw e refl
 
-no-first : (a b : Bool) → a ≡ false → (a && b) ≡ false
+pub no-first : (a b : Bool) → a ≡ false → (a && b) ≡ false
 no-first a b e = rw e refl
 
-no-second : (a b : Bool) → b ≡ false → (a && b) ≡ false
+pub no-second : (a b : Bool) → b ≡ false → (a && b) ≡ false
 no-second true b e = e
 no-second false b e = refl
 
@@ -186,31 +186,31 @@ view (a ∷ b ∷ t) = go (eqb a LF) (eqb a CR) (eqb b LF) refl refl refl
 
 -- The same by a place of the text.
 
-onto-none : (x : ℕ) (s : Spelled) → onto x s ≡ Pairs [] → ⊥
+pub onto-none : (x : ℕ) (s : Spelled) → onto x s ≡ Pairs [] → ⊥
 unfolding onto
 onto-none x (Pairs xs) e = let z : _≡_ {A = ℕ} 0 1 = cc in omega arith
 onto-none x Broken e = let z : _≡_ {A = ℕ} 0 1 = cc in omega arith
 
-onto-some : (x : ℕ) (s : Spelled) (y : ℕ) (ys : List ℕ) → onto x s ≡ Pairs (y ∷ ys) → (x ≡ y) × (s ≡ Pairs ys)
+pub onto-some : (x : ℕ) (s : Spelled) (y : ℕ) (ys : List ℕ) → onto x s ≡ Pairs (y ∷ ys) → (x ≡ y) × (s ≡ Pairs ys)
 unfolding onto
 onto-some x (Pairs xs) y ys e = (cc, cc)
 onto-some x Broken y ys e = let z : _≡_ {A = ℕ} 0 1 = cc in absurd (omega arith)
 
-onto-pairs : (x : ℕ) (s : Spelled) (ys : List ℕ) → s ≡ Pairs ys → onto x s ≡ Pairs (x ∷ ys)
+pub onto-pairs : (x : ℕ) (s : Spelled) (ys : List ℕ) → s ≡ Pairs ys → onto x s ≡ Pairs (x ∷ ys)
 unfolding onto
 onto-pairs x s ys e = rw e refl
 
-none-some : {x : ℕ} {xs : List ℕ} → Pairs [] ≡ Pairs (x ∷ xs) → ⊥
+pub none-some : {x : ℕ} {xs : List ℕ} → Pairs [] ≡ Pairs (x ∷ xs) → ⊥
 none-some e = let z : _≡_ {A = ℕ} 0 1 = cc in omega arith
 
-broken-not : (ps : List ℕ) → Broken ≡ Pairs ps → ⊥
+pub broken-not : (ps : List ℕ) → Broken ≡ Pairs ps → ⊥
 broken-not ps e = let z : _≡_ {A = ℕ} 0 1 = cc in omega arith
 
-spells-colon : (c : ℕ) (cs : List ℕ) → eqb c COLON ≡ true → lineSpells (c ∷ cs) ≡ spelledBy cs
+pub spells-colon : (c : ℕ) (cs : List ℕ) → eqb c COLON ≡ true → lineSpells (c ∷ cs) ≡ spelledBy cs
 unfolding lineSpells ask
 spells-colon c cs e = rw e
 
-spells-other : (c : ℕ) (cs : List ℕ) → eqb c COLON ≡ false → lineSpells (c ∷ cs) ≡ Broken
+pub spells-other : (c : ℕ) (cs : List ℕ) → eqb c COLON ≡ false → lineSpells (c ∷ cs) ≡ Broken
 unfolding lineSpells ask
 spells-other c cs e = rw e
 

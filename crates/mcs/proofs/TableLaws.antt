@@ -6,7 +6,7 @@ use mathlib.Core.List.{List, [], _∷_, _++_}
 use native.Mathlib.Nat.{add-zero}
 use native.Mathlib.Omega.{arith}
 use borrow.Author.Tests.{eqb-true}
-use lib.Dec.{T, eqb}
+use lib.Dec.{eqb}
 use lib.ListN.{length, getD, replicate}
 use Rattle.mcs.specs.Text.{digits}
 use Rattle.mcs.specs.Reading.{placeIn, digitOf}
@@ -17,22 +17,22 @@ abbrev pub agrees : (ℕ → ℕ) → ℕ → List ℕ → Bool
 agrees rule i [] = true
 agrees rule i (x ∷ xs) = eqb x (rule i) && agrees rule (suc i) xs
 
-first : (a b : Bool) → T (a && b) → a ≡ true
-first true b t = refl
-first false b t = absurd t
+pub and-left : (a b : Bool) → (a && b) ≡ true → a ≡ true
+and-left true b e = refl
+and-left false b e = e
 
-rest : (a b : Bool) → T (a && b) → T b
-rest true b t = t
-rest false b t = absurd t
+pub and-right : (a b : Bool) → (a && b) ≡ true → b ≡ true
+and-right true b e = e
+and-right false b e = let z : _≡_ {A = ℕ} 0 1 = cc in absurd (omega arith)
 
-entry-from : (rule : ℕ → ℕ) (xs : List ℕ) (i : ℕ) → T (agrees rule i xs) → (k : ℕ) → k < length xs → getD xs k 0 ≡ rule (i + k)
+entry-from : (rule : ℕ → ℕ) (xs : List ℕ) (i : ℕ) → agrees rule i xs ≡ true → (k : ℕ) → k < length xs → getD xs k 0 ≡ rule (i + k)
 entry-from rule [] i t k h = absurd (omega arith)
-entry-from rule (x ∷ xs) i t zero h = rw add-zero (eqb-true x (rule i) (first (eqb x (rule i)) (agrees rule (suc i) xs) t))
+entry-from rule (x ∷ xs) i t zero h = rw add-zero (eqb-true x (rule i) (and-left (eqb x (rule i)) (agrees rule (suc i) xs) t))
 entry-from rule (x ∷ xs) i t (suc k) h =
     let e : suc i + k ≡ i + suc k = omega arith in
-    rw e at (entry-from rule xs (suc i) (rest (eqb x (rule i)) (agrees rule (suc i) xs) t) k (omega arith))
+    rw e at (entry-from rule xs (suc i) (and-right (eqb x (rule i)) (agrees rule (suc i) xs) t) k (omega arith))
 
-pub entry : (rule : ℕ → ℕ) (xs : List ℕ) → T (agrees rule 0 xs) → (k : ℕ) → k < length xs → getD xs k 0 ≡ rule k
+pub entry : (rule : ℕ → ℕ) (xs : List ℕ) → agrees rule 0 xs ≡ true → (k : ℕ) → k < length xs → getD xs k 0 ≡ rule k
 entry rule xs t k h = let e : 0 + k ≡ k = omega arith in rw e at (entry-from rule xs 0 t k h)
 
 -- The code's table: up to 0 to 9, up to A to F, and after them.
@@ -43,4 +43,4 @@ values =
 
 pub digit-table : DigitTable values
 unfolding values digitOf placeIn digits
-digit-table = record { size = refl; entry = entry digitOf values tt }
+digit-table = record { size = refl; entry = entry digitOf values refl }

@@ -1,5 +1,6 @@
 -- The text of a record and of a file, from what they hold. Document 01, "MCS text".
-use Prim.Native.Nat.{ℕ, _+_, _-_, _/_, _%_}
+use Prim.Native.Nat.{ℕ, _+_, _-_, _*_, _/_, _%_, _<_, _≤_}
+use mathlib.Core.Path.{_≡_}
 use mathlib.Core.List.{List, [], _∷_, _++_}
 use lib.ListN.{length, getD}
 
@@ -60,14 +61,37 @@ unfoldable pub pairsOf : Record → List ℕ
 pairsOf r = bodyOf r ++ sumOf (bodyOf r) ∷ []
 
 -- a record's line
-pub record Line : Type 0 where
-  pub holds : Record
-  pub ending : Ending
+pub data Line : Type 0 where
+  Row : Record → Ending → Line
 
 unfoldable pub recordText : Line → List ℕ
-recordText line = lineText (pairsOf (line .holds)) (line .ending)
+recordText (Row r ending) = lineText (pairsOf r) ending
 
 -- a file's text: its lines, one after the other
 unfoldable pub fileText : List Line → List ℕ
 fileText [] = []
 fileText (line ∷ lines) = recordText line ++ fileText lines
+
+-- Which lists of lines are files, and of which image.
+
+unfoldable pub AllBytes : List ℕ → Type 0
+AllBytes [] = Unit {0}
+AllBytes (byte ∷ bytes) = (byte < 256) × AllBytes bytes
+
+-- Data records have 1 to 255 bytes; an address and an upper half have two.
+unfoldable pub Fit : Record → Type 0
+Fit (Data address bytes) = (address < 65536) × (1 ≤ length bytes) × (length bytes ≤ 255) × AllBytes bytes
+Fit (Upper half) = half < 65536
+Fit End = Unit {0}
+
+-- The lines after an upper half and the image so far: data records start where the last ended, none goes past a multiple of 65,536, and the last line is the end record.
+unfoldable pub FileFrom : ℕ → List ℕ → List Line → List ℕ → Type 0
+FileFrom half image [] whole = ⊥
+FileFrom half image (Row (Data address bytes) ending ∷ lines) whole =
+    Fit (Data address bytes) × (half * 65536 + address ≡ length image) × (address + length bytes ≤ 65536) × FileFrom half (image ++ bytes) lines whole
+FileFrom half image (Row (Upper upper) ending ∷ lines) whole = Fit (Upper upper) × FileFrom upper image lines whole
+FileFrom half image (Row End ending ∷ lines) whole = (lines ≡ []) × (image ≡ whole)
+
+-- lines that are a file of an image
+abbrev pub FileOf : List Line → List ℕ → Type 0
+FileOf lines image = FileFrom 0 [] lines image
