@@ -6,3 +6,4 @@ pub mod ReadingLaws
 pub mod FillLaws
 pub mod AnswerLaws
 pub mod TextLaws
+pub mod RecordLaws

@@ -6,7 +6,8 @@ use native.Mathlib.Nat.{add-zero}
 use native.Mathlib.Numerals.{add-one}
 use native.Mathlib.Omega.{arith}
 use borrow.Author.Count.{below-more}
-use borrow.Author.Tests.{eq-eqb, ne-eqb, le-leb, lt-leb}
+use borrow.Author.Tests.{eqb-true, eqb-false, eq-eqb, ne-eqb, le-leb, lt-leb}
+use mathlib.Core.Bool.{Bool, true, false}
 use lib.Dec.{eqb}
 use lib.ListN.{length, getD, take, drop}
 use Rattle.mcs.specs.Text.{Data, Upper, End, total}
@@ -103,6 +104,33 @@ module _ (pairs : List ℕ) where
   pub typed-upper : typeOf pairs ≡ 4 → countOf pairs ≡ 2 → addressOf pairs ≡ 0 → typed pairs ≡ Is (Upper (twoAt pairs 4))
   unfolding typed ask
   typed-upper t n a = rw t (by-upper _ _ _ _ ∙ rw (eq-eqb _ _ n, eq-eqb _ _ a) refl)
+
+-- Whatever pairs make, it is by one of these.
+pub data Typing (pairs : List ℕ) : Type 0 where
+  as-data : typeOf pairs ≡ 0 → (countOf pairs ≡ 0 → ⊥) → typed pairs ≡ Is (Data (addressOf pairs) (take (countOf pairs) (drop 4 pairs))) → Typing pairs
+  as-end : typeOf pairs ≡ 1 → countOf pairs ≡ 0 → addressOf pairs ≡ 0 → typed pairs ≡ Is End → Typing pairs
+  as-upper : typeOf pairs ≡ 4 → countOf pairs ≡ 2 → addressOf pairs ≡ 0 → typed pairs ≡ Is (Upper (twoAt pairs 4)) → Typing pairs
+  as-none : typed pairs ≡ Refuses 16 → Typing pairs
+
+pub typing : (pairs : List ℕ) → Typing pairs
+typing pairs = go (eqb (typeOf pairs) 0) (eqb (typeOf pairs) 1) (eqb (typeOf pairs) 4) refl refl refl
+  where
+    data′ : (b : Bool) → eqb (countOf pairs) 0 ≡ b → typeOf pairs ≡ 0 → Typing pairs
+    data′ true n t = as-none (typed-empty pairs t (eqb-true _ _ n))
+    data′ false n t = as-data t (eqb-false _ _ n) (typed-data pairs t (eqb-false _ _ n))
+    end : (p q : Bool) → eqb (countOf pairs) 0 ≡ p → eqb (addressOf pairs) 0 ≡ q → typeOf pairs ≡ 1 → Typing pairs
+    end false q n a t = as-none (typed-end-count pairs t (eqb-false _ _ n))
+    end true false n a t = as-none (typed-end-address pairs t (eqb-true _ _ n) (eqb-false _ _ a))
+    end true true n a t = as-end t (eqb-true _ _ n) (eqb-true _ _ a) (typed-end pairs t (eqb-true _ _ n) (eqb-true _ _ a))
+    upper : (p q : Bool) → eqb (countOf pairs) 2 ≡ p → eqb (addressOf pairs) 0 ≡ q → typeOf pairs ≡ 4 → Typing pairs
+    upper false q n a t = as-none (typed-upper-count pairs t (eqb-false _ _ n))
+    upper true false n a t = as-none (typed-upper-address pairs t (eqb-true _ _ n) (eqb-false _ _ a))
+    upper true true n a t = as-upper t (eqb-true _ _ n) (eqb-true _ _ a) (typed-upper pairs t (eqb-true _ _ n) (eqb-true _ _ a))
+    go : (p q r : Bool) → eqb (typeOf pairs) 0 ≡ p → eqb (typeOf pairs) 1 ≡ q → eqb (typeOf pairs) 4 ≡ r → Typing pairs
+    go true q r t u v = data′ (eqb (countOf pairs) 0) refl (eqb-true _ _ t)
+    go false true r t u v = end (eqb (countOf pairs) 0) (eqb (addressOf pairs) 0) refl refl (eqb-true _ _ u)
+    go false false true t u v = upper (eqb (countOf pairs) 2) (eqb (addressOf pairs) 0) refl refl (eqb-true _ _ v)
+    go false false false t u v = as-none (typed-other pairs (eqb-false _ _ t) (eqb-false _ _ u) (eqb-false _ _ v))
 
 -- The pairs of a line of `count` data bytes at a place.
 module _ (text : List ℕ) (at count : ℕ) where

@@ -14,7 +14,7 @@ use Rattle.mcs.specs.Place.{pairAt, ArePairs, pairsAt, endingAt, lineAt,
 use Rattle.mcs.specs.declared.line.Line.{Line}
 use Rattle.mcs.specs.declared.line.Line.the-variants.{Data as DataLine, Upper as UpperLine, End as EndLine, Refused as LineRefused}
 use Rattle.mcs.proofs.LineLaws.{line-first, line-long}
-use Rattle.mcs.proofs.PairLaws.{length-pairs, typed-empty, typed-end-count, typed-end-address, typed-end, typed-other, typed-upper-count, typed-upper-address, typed-upper, typed-data, linePairs, count-is, data-is, long-is}
+use Rattle.mcs.proofs.PairLaws.{length-pairs, Typing, as-data, as-end, as-upper, as-none, typing, linePairs, count-is, data-is, long-is}
 use Rattle.mcs.proofs.ShapeLaws.{Formed, afterPairs, orderly, sound-formed, sound-typed}
 
 -- One line more.
@@ -131,35 +131,13 @@ not-data : (p : Parsed) (address : ℕ) (bytes : List ℕ) (number : ℕ) → p 
 not-data p address bytes number e f = let z : _≡_ {A = ℕ} 0 1 = cc in omega arith
 
 data-bytes : (pairs : List ℕ) (address : ℕ) (bytes : List ℕ) → typed pairs ≡ Is (Data address bytes) → bytes ≡ take (countOf pairs) (drop 4 pairs)
-data-bytes pairs address bytes e = type (eqb (typeOf pairs) 0) (eqb (typeOf pairs) 1) (eqb (typeOf pairs) 4) refl refl refl
+data-bytes pairs address bytes e = go (typing pairs)
   where
-    no : (n : ℕ) → typed pairs ≡ Refuses n → bytes ≡ take (countOf pairs) (drop 4 pairs)
-    no n f = absurd (not-data (typed pairs) address bytes n f e)
-
-    some : (p : Bool) → eqb (countOf pairs) 0 ≡ p → typeOf pairs ≡ 0 → bytes ≡ take (countOf pairs) (drop 4 pairs)
-    some true n t = no 16 (typed-empty pairs t (eqb-true _ _ n))
-    some false n t =
-        let f : Is (Data (addressOf pairs) (take (countOf pairs) (drop 4 pairs))) ≡ Is (Data address bytes) = sym (typed-data pairs t (eqb-false _ _ n)) ∙ e in cc
-
-    end : (p q : Bool) → eqb (countOf pairs) 0 ≡ p → eqb (addressOf pairs) 0 ≡ q → typeOf pairs ≡ 1 → bytes ≡ take (countOf pairs) (drop 4 pairs)
-    end false q n a t = no 16 (typed-end-count pairs t (eqb-false _ _ n))
-    end true false n a t = no 16 (typed-end-address pairs t (eqb-true _ _ n) (eqb-false _ _ a))
-    end true true n a t =
-        let f : Is End ≡ Is (Data address bytes) = sym (typed-end pairs t (eqb-true _ _ n) (eqb-true _ _ a)) ∙ e in
-        let z : _≡_ {A = ℕ} 0 1 = cc in absurd (omega arith)
-
-    upper : (p q : Bool) → eqb (countOf pairs) 2 ≡ p → eqb (addressOf pairs) 0 ≡ q → typeOf pairs ≡ 4 → bytes ≡ take (countOf pairs) (drop 4 pairs)
-    upper false q n a t = no 16 (typed-upper-count pairs t (eqb-false _ _ n))
-    upper true false n a t = no 16 (typed-upper-address pairs t (eqb-true _ _ n) (eqb-false _ _ a))
-    upper true true n a t =
-        let f : Is (Upper (twoAt pairs 4)) ≡ Is (Data address bytes) = sym (typed-upper pairs t (eqb-true _ _ n) (eqb-true _ _ a)) ∙ e in
-        let z : _≡_ {A = ℕ} 0 1 = cc in absurd (omega arith)
-
-    type : (p q r : Bool) → eqb (typeOf pairs) 0 ≡ p → eqb (typeOf pairs) 1 ≡ q → eqb (typeOf pairs) 4 ≡ r → bytes ≡ take (countOf pairs) (drop 4 pairs)
-    type true q r t u v = some (eqb (countOf pairs) 0) refl (eqb-true _ _ t)
-    type false true r t u v = end (eqb (countOf pairs) 0) (eqb (addressOf pairs) 0) refl refl (eqb-true _ _ u)
-    type false false true t u v = upper (eqb (countOf pairs) 2) (eqb (addressOf pairs) 0) refl refl (eqb-true _ _ v)
-    type false false false t u v = no 16 (typed-other pairs (eqb-false _ _ t) (eqb-false _ _ u) (eqb-false _ _ v))
+    go : Typing pairs → bytes ≡ take (countOf pairs) (drop 4 pairs)
+    go (as-data t n f) = let g : Is (Data (addressOf pairs) (take (countOf pairs) (drop 4 pairs))) ≡ Is (Data address bytes) = sym f ∙ e in cc
+    go (as-end t n a f) = let g : Is End ≡ Is (Data address bytes) = sym f ∙ e in let z : _≡_ {A = ℕ} 0 1 = cc in absurd (omega arith)
+    go (as-upper t n a f) = let g : Is (Upper (twoAt pairs 4)) ≡ Is (Data address bytes) = sym f ∙ e in let z : _≡_ {A = ℕ} 0 1 = cc in absurd (omega arith)
+    go (as-none f) = absurd (not-data (typed pairs) address bytes 16 f e)
 
 pub record DataAt (text : List ℕ) (at : ℕ) (bytes : List ℕ) : Type 0 where
   pub pairs : ArePairs text (at + 9) (length bytes)

@@ -19,12 +19,12 @@ use Rattle.mcs.proofs.PairLaws.{length-pairs, getD-pairs, linePairs, co
 
 -- Question 11 by what a line spells.
 
-parsed-broken : (line : List ℕ) → lineSpells line ≡ Broken → parsed line ≡ Refuses 14
+pub parsed-broken : (line : List ℕ) → lineSpells line ≡ Broken → parsed line ≡ Refuses 14
 unfolding parsed bySpelled
 parsed-broken line e = rw e refl
 
 module _ (line pairs : List ℕ) (e : lineSpells line ≡ Pairs pairs) where
-  parsed-count : eqb (length pairs) (countOf pairs + 5) ≡ false → parsed line ≡ Refuses 14
+  pub parsed-count : eqb (length pairs) (countOf pairs + 5) ≡ false → parsed line ≡ Refuses 14
   unfolding parsed bySpelled ask
   parsed-count n = rw e (rw n refl)
 
