@@ -17,7 +17,7 @@ use Rattle.mcs.specs.declared.line.Line.the-variants.{Data as DataLine, 
 use Rattle.mcs.proofs.LineLaws.{line-long}
 use Rattle.mcs.proofs.ReadingLaws.{readAt, after, read-none, read-refused, read-apart, read-data, read-upper, read-end, read-more, at-none, at-refused, at-apart, at-data, at-upper, at-end, at-more, line-data, line-upper, line-end, line-refused, DataAt, data-at}
 
-refused-holds : {number place : ℕ} {image : List ℕ} → Refused number place ≡ Holds image → ⊥
+pub refused-holds : {number place : ℕ} {image : List ℕ} → Refused number place ≡ Holds image → ⊥
 refused-holds e = let z : _≡_ {A = ℕ} 0 1 = cc in omega arith
 
 pub fits-holds : (r : Reading) (room : ℕ) → Fits r room → (whole : List ℕ) × ((r ≡ Holds whole) × (length whole ≤ room))

@@ -7,3 +7,4 @@ pub mod FillLaws
 pub mod AnswerLaws
 pub mod TextLaws
 pub mod RecordLaws
+pub mod FileLaws

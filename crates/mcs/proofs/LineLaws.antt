@@ -230,23 +230,23 @@ first-some c cs = go (eqb c LF) refl
     go true e = rw (first-lf c cs e) (omega arith)
     go false e = rw (first-on c cs e) (omega arith)
 
-lines-lf : (c : ℕ) (cs : List ℕ) → eqb c LF ≡ true → linesOf (c ∷ cs) ≡ (c ∷ []) ∷ linesOf cs
+pub lines-lf : (c : ℕ) (cs : List ℕ) → eqb c LF ≡ true → linesOf (c ∷ cs) ≡ (c ∷ []) ∷ linesOf cs
 unfolding linesOf
 lines-lf c cs e = rw (e, linesOf)
 
-lines-on : (c : ℕ) (cs : List ℕ) → eqb c LF ≡ false → linesOf (c ∷ cs) ≡ before c (linesOf cs)
+pub lines-on : (c : ℕ) (cs : List ℕ) → eqb c LF ≡ false → linesOf (c ∷ cs) ≡ before c (linesOf cs)
 unfolding linesOf
 lines-on c cs e = rw (e, linesOf)
 
-lines-none : linesOf [] ≡ []
+pub lines-none : linesOf [] ≡ []
 unfolding linesOf
 lines-none = refl
 
-before-none : (c : ℕ) → before c [] ≡ (c ∷ []) ∷ []
+pub before-none : (c : ℕ) → before c [] ≡ (c ∷ []) ∷ []
 unfolding before
 before-none c = refl
 
-before-line : (c : ℕ) (line : List ℕ) (lines : List (List ℕ)) → before c (line ∷ lines) ≡ (c ∷ line) ∷ lines
+pub before-line : (c : ℕ) (line : List ℕ) (lines : List (List ℕ)) → before c (line ∷ lines) ≡ (c ∷ line) ∷ lines
 unfolding before
 before-line c line lines = refl
 

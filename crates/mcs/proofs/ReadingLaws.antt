@@ -52,11 +52,11 @@ no-lines : linesOf [] ≡ []
 unfolding linesOf
 no-lines = refl
 
-none-none : none [] ≡ true
+pub none-none : none [] ≡ true
 unfolding none
 none-none = refl
 
-none-some : (line : List ℕ) (lines : List (List ℕ)) → none (line ∷ lines) ≡ false
+pub none-some : (line : List ℕ) (lines : List (List ℕ)) → none (line ∷ lines) ≡ false
 unfolding none
 none-some line lines = refl
 

@@ -55,7 +55,7 @@ body-bytes (Data address bytes) h = (omega arith, (omega arith, (omega arith, (o
 body-bytes (Upper half) h = (omega arith, (omega arith, (omega arith, (omega arith, (omega arith, (omega arith, tt))))))
 body-bytes End h = (omega arith, (omega arith, (omega arith, (omega arith, tt))))
 
-pairs-bytes : (r : Record) → Fit r → AllBytes (pairsOf r)
+pub pairs-bytes : (r : Record) → Fit r → AllBytes (pairsOf r)
 unfolding pairsOf sumOf
 pairs-bytes r h = bytes-end (bodyOf r) (sumOf (bodyOf r)) (body-bytes r h) (sum-small (total (bodyOf r)))
 

@@ -56,7 +56,7 @@ value-digit c h = place-of digits c h
 is-digit : (n : ℕ) → n < 16 → isDigit (getD digits n 0) ≡ true
 is-digit n h = lt-ltb (digitOf (getD digits n 0)) 16 (rw (digit-value n h) h)
 
-not-lf : (n : ℕ) → n < 16 → eqb (getD digits n 0) LF ≡ false
+pub not-lf : (n : ℕ) → n < 16 → eqb (getD digits n 0) LF ≡ false
 unfolding digits
 not-lf n h = eqb-true-not (at-below (λ (k : ℕ). not (eqb (getD digits k 0) LF)) 16 refl n h)
   where
