@@ -1,15 +1,15 @@
 -- Laws of a file: the reader takes the texts of files, each to its image, and no others.
-use Prim.Native.Nat.{ℕ, _+_, _*_, _/_, _%_, _<_, _≤_}
+use Prim.Native.Nat.{ℕ, _+_, _*_, _/_, _%_, _≤_}
 use mathlib.Core.Path.{_≡_, refl, sym, ap, ap₂, _∙_}
 use mathlib.Core.Bool.{Bool, true, false}
-use mathlib.Core.List.{List, [], _∷_, _++_, append-nil}
+use mathlib.Core.List.{List, [], _∷_, _++_}
 use native.Mathlib.Omega.{arith}
-use borrow.Author.Tests.{eqb-true, eqb-false, eq-eqb, le-leb, leb-true}
-use lib.Dec.{eqb, leb}
-use lib.ListN.{length, getD}
-use Rattle.mcs.specs.Text.{LF, CR, COLON, digits, hex, Ending, Lf, CrLf, endingText, lineText, Record, Data, Upper, End, pairsOf, Line, Row, recordText, fileText, AllBytes, Fit, FileFrom, FileOf}
-use Rattle.mcs.specs.Reading.{ask, Parsed, Is, Refuses, parsed, follows, before, linesOf, none, Reading, Holds, Refused, readFrom, readText}
-use Rattle.mcs.proofs.LineLaws.{lines-none, lines-lf, lines-on, before-none, before-line}
+use borrow.Author.Tests.{eqb-true, eq-eqb, le-leb, leb-true}
+use lib.Dec.{eqb}
+use lib.ListN.{length}
+use Rattle.mcs.specs.Text.{LF, CR, COLON, hex, Ending, Lf, CrLf, endingText, lineText, Record, Data, Upper, End, pairsOf, Line, Row, recordText, fileText, AllBytes, Fit, FileFrom, FileOf}
+use Rattle.mcs.specs.Reading.{ask, Parsed, Is, Refuses, parsed, follows, before, linesOf, none, Holds, readFrom, readText}
+use Rattle.mcs.proofs.LineLaws.{lines-none, lines-lf, lines-on, before-line}
 use Rattle.mcs.proofs.ReadingLaws.{read-none, read-refused, read-apart, read-data, read-upper, read-end, read-more, none-none, none-some}
 use Rattle.mcs.proofs.FillLaws.{refused-holds}
 use Rattle.mcs.proofs.TextLaws.{not-lf}
@@ -130,6 +130,7 @@ reads-file (text ∷ texts) place half image whole e = go (parsed text) refl (λ
         let a : (half * 65536 + address ≡ length image) × (address + length bytes ≤ 65536) = true-follows half address (length image) (length bytes) f in
         (Row (Data address bytes) (t .0) ∷ w .0, (written-more text texts (Row (Data address bytes) (t .0)) (w .0) (t .1 .0) (w .1 .0), (t .1 .1, a .0, a .1, w .1 .1)))
     rule false address bytes p f ih = absurd (refused-holds (sym (read-apart text texts place half image address bytes p f) ∙ e))
+
     last : (b : Bool) → parsed text ≡ Is End → none texts ≡ b → Written half image (text ∷ texts) whole
     last true p f =
         let t : (x : Ending) × ((text ≡ recordText (Row End x)) × Fit End) = parsed-text text End p in
@@ -138,6 +139,7 @@ reads-file (text ∷ texts) place half image whole e = go (parsed text) refl (λ
         let n : joined texts ≡ fileText [] = ap joined (no-lines-left texts f) ∙ joined-none in
         (Row End (t .0) ∷ [], (written-more text texts (Row End (t .0)) [] (t .1 .0) n, (refl, g)))
     last false p f = absurd (refused-holds (sym (read-more text texts place half image p f) ∙ e))
+
     go : (p : Parsed) → parsed text ≡ p → ((upper : ℕ) (longer : List ℕ) → readFrom texts (place + length text) upper longer ≡ Holds whole → Written upper longer texts whole) → Written half image (text ∷ texts) whole
     go (Refuses number) p ih = absurd (refused-holds (sym (read-refused text texts place half image number p) ∙ e))
     go (Is (Data address bytes)) p ih = rule (follows half address (length image) (length bytes)) address bytes p refl ih

@@ -8,3 +8,4 @@ pub mod AnswerLaws
 pub mod TextLaws
 pub mod RecordLaws
 pub mod FileLaws
+pub mod Laws

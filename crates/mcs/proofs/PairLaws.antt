@@ -1,9 +1,8 @@
 -- Laws of pairs by their place in the text, and of the record that they make.
 use Prim.Native.Nat.{ℕ, zero, suc, _+_, _-_, _*_, _<_, _≤_}
 use mathlib.Core.Path.{_≡_, refl, sym, ap, ap₂, _∙_}
-use mathlib.Core.List.{List, [], _∷_, _++_}
+use mathlib.Core.List.{List, _∷_}
 use native.Mathlib.Nat.{add-zero}
-use native.Mathlib.Numerals.{add-one}
 use native.Mathlib.Omega.{arith}
 use borrow.Author.Count.{below-more}
 use borrow.Author.Tests.{eqb-true, eqb-false, eq-eqb, ne-eqb, le-leb, lt-leb}
@@ -11,7 +10,7 @@ use mathlib.Core.Bool.{Bool, true, false}
 use lib.Dec.{eqb}
 use lib.ListN.{length, getD, take, drop}
 use Rattle.mcs.specs.Text.{Data, Upper, End, total}
-use Rattle.mcs.specs.Reading.{ask, digitOf, countOf, twoAt, addressOf, typeOf, byType, Is, Refuses, typed}
+use Rattle.mcs.specs.Reading.{ask, countOf, twoAt, addressOf, typeOf, byType, Is, Refuses, typed}
 use Rattle.mcs.specs.Place.{pairAt, IsPair, ArePairs, pairsAt}
 
 module _ (text : List ℕ) where
@@ -118,14 +117,17 @@ typing pairs = go (eqb (typeOf pairs) 0) (eqb (typeOf pairs) 1) (eqb (typeOf pai
     data′ : (b : Bool) → eqb (countOf pairs) 0 ≡ b → typeOf pairs ≡ 0 → Typing pairs
     data′ true n t = as-none (typed-empty pairs t (eqb-true _ _ n))
     data′ false n t = as-data t (eqb-false _ _ n) (typed-data pairs t (eqb-false _ _ n))
+
     end : (p q : Bool) → eqb (countOf pairs) 0 ≡ p → eqb (addressOf pairs) 0 ≡ q → typeOf pairs ≡ 1 → Typing pairs
     end false q n a t = as-none (typed-end-count pairs t (eqb-false _ _ n))
     end true false n a t = as-none (typed-end-address pairs t (eqb-true _ _ n) (eqb-false _ _ a))
     end true true n a t = as-end t (eqb-true _ _ n) (eqb-true _ _ a) (typed-end pairs t (eqb-true _ _ n) (eqb-true _ _ a))
+
     upper : (p q : Bool) → eqb (countOf pairs) 2 ≡ p → eqb (addressOf pairs) 0 ≡ q → typeOf pairs ≡ 4 → Typing pairs
     upper false q n a t = as-none (typed-upper-count pairs t (eqb-false _ _ n))
     upper true false n a t = as-none (typed-upper-address pairs t (eqb-true _ _ n) (eqb-false _ _ a))
     upper true true n a t = as-upper t (eqb-true _ _ n) (eqb-true _ _ a) (typed-upper pairs t (eqb-true _ _ n) (eqb-true _ _ a))
+
     go : (p q r : Bool) → eqb (typeOf pairs) 0 ≡ p → eqb (typeOf pairs) 1 ≡ q → eqb (typeOf pairs) 4 ≡ r → Typing pairs
     go true q r t u v = data′ (eqb (countOf pairs) 0) refl (eqb-true _ _ t)
     go false true r t u v = end (eqb (countOf pairs) 0) (eqb (addressOf pairs) 0) refl refl (eqb-true _ _ u)

@@ -1,20 +1,17 @@
 -- Laws of a whole text: what one line adds to a reading, by the line's place.
-use Prim.Native.Nat.{ℕ, suc, _+_, _-_, _*_, _<_, _≤_}
+use Prim.Native.Nat.{ℕ, _+_, _-_, _*_, _<_, _≤_}
 use mathlib.Core.Path.{_≡_, refl, sym, ap, ap₂, _∙_}
-use mathlib.Core.Bool.{Bool, true, false}
-use mathlib.Core.List.{List, [], _∷_, _++_, append-assoc, append-nil}
+use mathlib.Core.Bool.{true, false}
+use mathlib.Core.List.{List, [], _∷_, _++_}
 use native.Mathlib.Omega.{arith}
-use borrow.Author.Tests.{eqb-true, eqb-false, leb-true, leb-false}
-use lib.Dec.{eqb, leb}
-use lib.ListN.{length, getD, length-append, take, drop, length-drop, drop-of-length-le}
-use lib.Seq.{drop-cons}
+use lib.ListN.{length, length-append, take, drop, drop-of-length-le}
 use Rattle.mcs.specs.Text.{Data, Upper, End}
-use Rattle.mcs.specs.Reading.{ask, countOf, twoAt, addressOf, typeOf, Parsed, Is, Refuses, typed, parsed, byParsed, follows, linesOf, none, Reading, Holds, Refused, readFrom, readText}
+use Rattle.mcs.specs.Reading.{ask, countOf, twoAt, addressOf, Parsed, Is, Refuses, typed, parsed, byParsed, follows, linesOf, none, Reading, Holds, Refused, readFrom, readText}
 use Rattle.mcs.specs.Place.{pairAt, ArePairs, pairsAt, endingAt, lineAt, Sound, Orderly, asLine}
 use Rattle.mcs.specs.declared.line.Line.{Line}
 use Rattle.mcs.specs.declared.line.Line.the-variants.{Data as DataLine, Upper as UpperLine, End as EndLine, Refused as LineRefused}
 use Rattle.mcs.proofs.LineLaws.{line-first, line-long}
-use Rattle.mcs.proofs.PairLaws.{length-pairs, Typing, as-data, as-end, as-upper, as-none, typing, linePairs, count-is, data-is, long-is}
+use Rattle.mcs.proofs.PairLaws.{length-pairs, Typing, as-data, as-end, as-upper, as-none, typing, linePairs, count-is, data-is}
 use Rattle.mcs.proofs.ShapeLaws.{Formed, afterPairs, orderly, sound-formed, sound-typed}
 
 -- One line more.

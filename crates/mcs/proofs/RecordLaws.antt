@@ -6,10 +6,10 @@ use mathlib.Core.List.{List, [], _∷_, _++_}
 use native.Mathlib.Omega.{arith}
 use borrow.Author.Tests.{eqb-true, eqb-false}
 use lib.Dec.{eqb}
-use lib.ListN.{length, getD, take, drop, length-append, drop-of-length-le}
+use lib.ListN.{length, getD, take, length-append, drop-of-length-le}
 use lib.Seq.{take-append-seam, split-at, length-take-le}
 use Rattle.mcs.specs.Text.{Ending, lineText, Record, Data, Upper, End, bodyOf, total, sumOf, pairsOf, Row, recordText, AllBytes, Fit}
-use Rattle.mcs.specs.Reading.{Spelled, Pairs, Broken, lineSpells, countOf, twoAt, addressOf, typeOf, Parsed, Is, Refuses, typed, parsed}
+use Rattle.mcs.specs.Reading.{Spelled, Pairs, Broken, lineSpells, countOf, Is, Refuses, typed, parsed}
 use Rattle.mcs.proofs.PairLaws.{Typing, as-data, as-end, as-upper, as-none, typing, typed-data, typed-end, typed-upper}
 use Rattle.mcs.proofs.ShapeLaws.{parsed-broken, parsed-count, parsed-sum, parsed-typed}
 use Rattle.mcs.proofs.TextLaws.{line-spelled, spelled-line}
@@ -124,22 +124,26 @@ makes (a ∷ b ∷ c ∷ d ∷ rest) r h l t e = go (typing (a ∷ b ∷ c ∷ d
   where
     parts : rest ≡ take a rest ++ getD rest a 0 ∷ []
     parts = last-of rest a (omega arith)
+
     long : length (take a rest) ≡ a
     long = length-take-le a rest (omega arith)
+
     -- the pairs with the data and the sum apart
     whole : a ∷ b ∷ c ∷ d ∷ rest ≡ (a ∷ b ∷ c ∷ d ∷ take a rest) ++ getD rest a 0 ∷ []
     whole = ap (λ (x : List ℕ). a ∷ b ∷ c ∷ d ∷ x) parts
+
     made : (q : Record) → a ∷ b ∷ c ∷ d ∷ take a rest ≡ bodyOf q → Fit q → Is q ≡ Is r → Makes (a ∷ b ∷ c ∷ d ∷ rest) r
     made q f k i =
         rw (is-same i) at (let m : Makes (a ∷ b ∷ c ∷ d ∷ rest) q =
-            (whole ∙ record-by q (a ∷ b ∷ c ∷ d ∷ take a rest) (getD rest a 0) f (bytes-at rest a (h .1 .1 .1 .1)) (rw whole at t), k) in m)
+        (whole ∙ record-by q (a ∷ b ∷ c ∷ d ∷ take a rest) (getD rest a 0) f (bytes-at rest a (h .1 .1 .1 .1)) (rw whole at t), k) in m)
+
     go : Typing (a ∷ b ∷ c ∷ d ∷ rest) → Makes (a ∷ b ∷ c ∷ d ∷ rest) r
     go (as-data ty n f) =
         let x : (b * 256 + c) / 256 ≡ b = omega arith in
         let y : (b * 256 + c) % 256 ≡ c = omega arith in
         let z : d ≡ 0 = ty in
         let fit : (b * 256 + c < 65536) × (1 ≤ length (take a rest)) × (length (take a rest) ≤ 255) × AllBytes (take a rest) =
-            (omega arith, omega (arith, long), omega (arith, long), bytes-take a rest (h .1 .1 .1 .1)) in
+        (omega arith, omega (arith, long), omega (arith, long), bytes-take a rest (h .1 .1 .1 .1)) in
         made (Data (b * 256 + c) (take a rest)) (rw (long, x, y, z) refl) fit (sym f ∙ e)
     go (as-end ty n ad f) =
         let z : d ≡ 1 = ty in
@@ -166,15 +170,18 @@ parsed-text line r p = spelled (lineSpells line) refl
   where
     refused : (number : ℕ) → parsed line ≡ Refuses number → (e : Ending) × ((line ≡ lineText (pairsOf r) e) × Fit r)
     refused number q = let z : _≡_ {A = ℕ} 0 1 = cc in absurd (omega arith)
+
     summed : (pairs : List ℕ) (b : Bool) → lineSpells line ≡ Pairs pairs → length pairs ≡ countOf pairs + 5 → eqb (total pairs % 256) 0 ≡ b → (e : Ending) × ((line ≡ lineText (pairsOf r) e) × Fit r)
     summed pairs true s n t =
         let text : (e : Ending) × ((line ≡ lineText pairs e) × AllBytes pairs) = spelled-line line pairs s in
         let m : Makes pairs r = makes pairs r (text .1 .1) n (eqb-true _ _ t) (sym (parsed-typed line pairs s n (eqb-true _ _ t)) ∙ p) in
         (text .0, (text .1 .0 ∙ ap (λ (l : List ℕ). lineText l (text .0)) (m .0), m .1))
     summed pairs false s n t = refused 15 (parsed-sum line pairs s n (eqb-false _ _ t))
+
     counted : (pairs : List ℕ) (b : Bool) → lineSpells line ≡ Pairs pairs → eqb (length pairs) (countOf pairs + 5) ≡ b → (e : Ending) × ((line ≡ lineText (pairsOf r) e) × Fit r)
     counted pairs true s n = summed pairs (eqb (total pairs % 256) 0) s (eqb-true _ _ n) refl
     counted pairs false s n = refused 14 (parsed-count line pairs s n)
+
     spelled : (s : Spelled) → lineSpells line ≡ s → (e : Ending) × ((line ≡ lineText (pairsOf r) e) × Fit r)
     spelled (Pairs pairs) s = counted pairs (eqb (length pairs) (countOf pairs + 5)) s refl
     spelled Broken s = refused 14 (parsed-broken line s)

@@ -1,14 +1,14 @@
 -- Laws of a text: what is spelled is just what was written, character by character, record by record, and for a whole file.
-use Prim.Native.Nat.{ℕ, zero, suc, _+_, _-_, _*_, _/_, _%_, _<_, _≤_}
+use Prim.Native.Nat.{ℕ, zero, suc, _+_, _-_, _*_, _/_, _%_, _<_}
 use mathlib.Core.Path.{_≡_, refl, sym, ap, ap₂, _∙_}
 use mathlib.Core.Bool.{Bool, true, false, not, _&&_}
-use mathlib.Core.List.{List, [], _∷_, _++_, append-assoc, append-nil}
+use mathlib.Core.List.{List, [], _∷_, _++_}
 use native.Mathlib.Omega.{arith}
-use borrow.Author.Tests.{not-true, eqb-true, eqb-false, eq-eqb, ne-eqb, lt-ltb, ltb-true, ltb-false, le-leb, leb-true, leb-false}
-use lib.Dec.{eqb, ltb, leb}
-use lib.ListN.{length, getD, take, drop, length-append}
-use Rattle.mcs.specs.Text.{LF, CR, COLON, digits, hex, Ending, Lf, CrLf, endingText, lineText, Record, Data, Upper, End, bodyOf, total, sumOf, pairsOf, Line, Row, recordText, fileText, AllBytes, Fit, FileFrom, FileOf}
-use Rattle.mcs.specs.Reading.{ask, placeIn, digitOf, isDigit, isEnding, Spelled, Pairs, Broken, onto, spelledBy, lineSpells, bySpelled, countOf, twoAt, addressOf, typeOf, Parsed, Is, Refuses, typed, parsed, follows, before, linesOf, none, Reading, Holds, Refused, readFrom, readText}
+use borrow.Author.Tests.{not-true, eqb-true, lt-ltb, ltb-true, ltb-false}
+use lib.Dec.{eqb, ltb}
+use lib.ListN.{length, getD}
+use Rattle.mcs.specs.Text.{LF, CR, COLON, digits, hex, Ending, Lf, CrLf, endingText, lineText, AllBytes}
+use Rattle.mcs.specs.Reading.{placeIn, digitOf, isDigit, isEnding, Pairs, Broken, onto, spelledBy, lineSpells}
 use Rattle.mcs.proofs.TableLaws.{and-left, and-right}
 use Rattle.mcs.proofs.LineLaws.{not-ending, spelled-end, spelled-one, spelled-pair, spelled-other, spells-colon, spells-other, no-first, no-second, onto-none, onto-some, onto-pairs, none-some, broken-not}
 
@@ -82,8 +82,8 @@ unfolding hex AllBytes
 hex-spells [] e h = spelled-end (endingText e) (ending-is e)
 hex-spells (p ∷ ps) e h =
     spelled-pair (getD digits (p / 16) 0) (getD digits (p % 16) 0) (hex ps ++ endingText e)
-        (not-ending _ _ (hex ps ++ endingText e) (not-lf (p % 16) (omega arith)))
-        (is-digit (p / 16) (omega arith)) (is-digit (p % 16) (omega arith))
+    (not-ending _ _ (hex ps ++ endingText e) (not-lf (p % 16) (omega arith)))
+    (is-digit (p / 16) (omega arith)) (is-digit (p % 16) (omega arith))
     ∙ onto-pairs _ _ ps (hex-spells ps e (h .1))
     ∙ ap (λ (x : ℕ). Pairs (x ∷ ps)) (byte-of p (h .0))
 
@@ -133,6 +133,7 @@ spelled-hex (a ∷ b ∷ cs) ps e = go (isEnding (a ∷ b ∷ cs)) (isDigit a) (
     more (q ∷ qs) h ih ha hb =
         let o : (16 * digitOf a + digitOf b ≡ q) × (spelledBy cs ≡ Pairs qs) = onto-some (16 * digitOf a + digitOf b) (spelledBy cs) q qs h in
         rw (o .0) at (spells-more a b cs qs ha hb (ih qs (o .1)))
+
     go : (p q r : Bool) → isEnding (a ∷ b ∷ cs) ≡ p → isDigit a ≡ q → isDigit b ≡ r → ((rs : List ℕ) → spelledBy cs ≡ Pairs rs → Spells cs rs) → Spells (a ∷ b ∷ cs) ps
     go true q r h ha hb ih = spells-end (a ∷ b ∷ cs) ps h e
     go false true true h ha hb ih = more ps (sym (spelled-pair a b cs h ha hb) ∙ e) ih (ltb-true _ _ ha) (ltb-true _ _ hb)

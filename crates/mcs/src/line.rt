@@ -1,6 +1,6 @@
 // One line of the text: its characters, its sum, its record.
 ghost use mathlib.Core.Path.{_≡_};
-ghost use Prim.Native.Nat.{ℕ, _+_, _*_, _<_, _≤_};
+ghost use Prim.Native.Nat.{_+_, _*_, _<_, _≤_};
 ghost use lib.ListN.{length};
 ghost use Rattle.mcs.specs.Reading.{typed, parsed};
 ghost use Rattle.mcs.specs.Place.{DigitTable, pairAt, pairsAt, endingAt, lineAt, Summed, ShapeIs, asLine, Sound};

@@ -1,12 +1,11 @@
 -- `line::ending` meets its contract.
 use mathlib.Core.Path.{refl}
 use Rattle.mcs.proofs.LineLaws.{ending-lf, ending-crlf, ending-cr, ending-none}
-use Rattle.mcs.specs.Text.{LF, CR}
 use lib.ListN.{getD, List·getD-eq-default}
 use borrow.Author.Tests.{eq-eqb, ne-eqb}
 use native.Mathlib.Omega.{arith}
 use mathlib.Core.Path.{_≡_, sym}
-use Prim.Native.Nat.{ℕ, _+_}
+use Prim.Native.Nat.{_+_}
 use borrow.Author.Needs.{needs}
 use Rattle.mcs.proofs.line.ending.Statement.{statement}
 use Rattle.mcs.proofs.line.ending.Tie as tie

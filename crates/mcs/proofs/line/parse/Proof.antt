@@ -3,10 +3,7 @@ use Rattle.mcs.proofs.ShapeLaws.{shape-none, shape-some, orderly-count,
 use Rattle.mcs.proofs.PairLaws.{linePairs}
 use Rattle.mcs.specs.Place.{lineAt, Orderly, asLine}
 use Rattle.mcs.specs.Text.{total}
-use lib.ListN.{length}
-use native.Mathlib.Omega.{arith}
 use mathlib.Core.Path.{_≡_, refl, sym, ap₂, _∙_}
-use Prim.Native.Nat.{_+_, _%_}
 use borrow.Author.Needs.{needs}
 use Rattle.mcs.proofs.line.parse.Statement.{statement}
 use Rattle.mcs.proofs.line.parse.Tie as tie

@@ -1,10 +1,10 @@
 -- `line::parse_sound` meets its contract: of a line that passes, the count says where it ends.
 use Rattle.mcs.proofs.ShapeLaws.{Formed, afterPairs, sound-formed, formed-long, orderly, sound-typed}
-use Rattle.mcs.specs.Place.{pairAt, endingAt, Orderly, asLine}
+use Rattle.mcs.specs.Place.{Orderly, asLine}
 use lib.ListN.{length}
 use native.Mathlib.Omega.{arith}
-use mathlib.Core.Path.{_≡_, sym, ap₂, _∙_}
-use Prim.Native.Nat.{ℕ, _+_, _*_, _≤_}
+use mathlib.Core.Path.{sym, ap₂, _∙_}
+use Prim.Native.Nat.{_+_, _*_, _≤_}
 use borrow.Author.Needs.{needs}
 use Rattle.mcs.proofs.line.parse_sound.Statement.{statement}
 use Rattle.mcs.proofs.line.parse_sound.Tie as tie

@@ -1,11 +1,11 @@
 -- `line::shape_of` meets its contract: each refusal is for want of one of the characters that a line has.
-use Rattle.mcs.proofs.ShapeLaws.{Formed, afterPairs, unformed-by, formed-long, shaped, summed-pairs, summed-none}
+use Rattle.mcs.proofs.ShapeLaws.{afterPairs, unformed-by, formed-long, shaped, summed-pairs, summed-none}
 use Rattle.mcs.specs.Text.{total}
-use Rattle.mcs.specs.Place.{pairAt, ArePairs, pairsAt, endingAt, ShapeIs}
-use lib.ListN.{length, getD}
+use Rattle.mcs.specs.Place.{ArePairs, pairsAt, endingAt, ShapeIs}
+use lib.ListN.{length}
 use native.Mathlib.Omega.{arith}
-use mathlib.Core.Path.{_≡_, sym, _∙_, ap}
-use Prim.Native.Nat.{ℕ, _+_, _*_, _<_, _≤_}
+use mathlib.Core.Path.{_≡_}
+use Prim.Native.Nat.{_+_, _≤_}
 use borrow.Author.Needs.{needs}
 use Rattle.mcs.proofs.line.shape_of.Statement.{statement}
 use Rattle.mcs.proofs.line.shape_of.Tie as tie

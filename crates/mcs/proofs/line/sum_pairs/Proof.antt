@@ -1,13 +1,11 @@
 -- `line::sum_pairs` meets its contract. The loop's invariant: so far all are pairs, and the sum is theirs.
 use Rattle.mcs.proofs.PairLaws.{total-pairs, are-more}
 use Rattle.mcs.specs.Place.{IsPair, ArePairs, pairAt, pairsAt, Summed}
-use Rattle.mcs.specs.Reading.{digitOf}
 use Rattle.mcs.specs.Text.{total}
-use lib.ListN.{getD}
 use borrow.Author.Needs.{needs}
 use native.Mathlib.Omega.{arith}
-use mathlib.Core.Path.{_≡_, refl, sym, _∙_}
-use Prim.Native.Nat.{ℕ, _+_, _-_, _*_, _<_, _≤_}
+use mathlib.Core.Path.{_≡_, refl}
+use Prim.Native.Nat.{_+_, _-_, _*_, _≤_}
 use Rattle.mcs.proofs.line.sum_pairs.Statement.{statement}
 use Rattle.mcs.proofs.line.sum_pairs.Tie as tie
 

@@ -3,8 +3,8 @@ use Rattle.mcs.proofs.PairLaws.{typed-empty, typed-data, typed-end-coun
 use Rattle.mcs.specs.declared.line.Line.the-variants.{Data, Upper}
 use Rattle.mcs.specs.Place.{asLine}
 use native.Mathlib.Omega.{arith}
-use mathlib.Core.Path.{_≡_, refl, sym, ap, ap₂, _∙_}
-use Prim.Native.Nat.{ℕ, _+_}
+use mathlib.Core.Path.{refl, sym, ap, ap₂}
+use Prim.Native.Nat.{ℕ}
 use borrow.Author.Needs.{needs}
 use Rattle.mcs.proofs.line.typed_line.Statement.{statement}
 use Rattle.mcs.proofs.line.typed_line.Tie as tie

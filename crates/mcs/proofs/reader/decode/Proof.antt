@@ -1,15 +1,15 @@
 -- `reader::decode` meets its contract. The loop's invariant: the buffer with the first i bytes of the pairs put in.
 use Rattle.mcs.proofs.PairLaws.{length-pairs, getD-pairs}
-use Rattle.mcs.specs.Place.{IsPair, pairAt, pairsAt}
+use Rattle.mcs.specs.Place.{IsPair, pairsAt}
 use lib.Seq.{paste, paste-zero, paste-suc, length-paste}
-use lib.ListN.{length, getD, set}
+use lib.ListN.{length, getD}
 use borrow.Author.Needs.{needs}
 use native.Mathlib.Omega.{arith}
 use native.Mathlib.Numerals.{add-one}
 use native.Mathlib.Nat.{mod-eq-of-lt}
 use mathlib.Core.List.{List}
-use mathlib.Core.Path.{_≡_, refl, sym, ap, _∙_}
-use Prim.Native.Nat.{ℕ, _+_, _-_, _*_, _%_, _<_, _≤_}
+use mathlib.Core.Path.{_≡_, sym, ap, _∙_}
+use Prim.Native.Nat.{ℕ, _+_, _-_, _*_, _%_, _≤_}
 use Rattle.mcs.proofs.reader.decode.Statement.{statement}
 use Rattle.mcs.proofs.reader.decode.Tie as tie
 

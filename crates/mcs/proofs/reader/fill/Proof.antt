@@ -5,9 +5,8 @@ use Rattle.mcs.specs.Reading.{readText}
 use lib.ListN.{length}
 use borrow.Author.Needs.{needs}
 use native.Mathlib.Omega.{arith}
-use mathlib.Core.List.{List}
-use mathlib.Core.Path.{_≡_, refl, sym, ap, _∙_}
-use Prim.Native.Nat.{ℕ, _+_, _-_, _*_, _<_, _≤_}
+use mathlib.Core.Path.{_≡_}
+use Prim.Native.Nat.{_+_, _-_, _*_, _<_, _≤_}
 use Rattle.mcs.proofs.reader.fill.Statement.{statement}
 use Rattle.mcs.proofs.reader.fill.Tie as tie
 

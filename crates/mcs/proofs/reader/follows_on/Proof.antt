@@ -2,7 +2,6 @@
 use mathlib.Core.Path.{refl}
 use Rattle.mcs.specs.Reading.{ask, follows}
 use borrow.Author.Tests.{eq-eqb, ne-eqb}
-use native.Mathlib.Omega.{arith}
 use borrow.Author.Needs.{needs}
 use Rattle.mcs.proofs.reader.follows_on.Statement.{statement}
 use Rattle.mcs.proofs.reader.follows_on.Tie as tie

@@ -1,13 +1,12 @@
 -- `reader::size_of` meets its contract. The loop's invariant: the lines so far hold an image of `next` bytes, and the text reads as from here on.
 use Rattle.mcs.proofs.ReadingLaws.{Reached, at-none, pass-refused, pass-upper, pass-end, pass-more, pass-apart, pass-data, pass-long}
 use Rattle.mcs.specs.Place.{sizeOf}
-use Rattle.mcs.specs.Reading.{Holds, Refused, readText}
+use Rattle.mcs.specs.Reading.{Holds, readText}
 use lib.ListN.{length}
 use borrow.Author.Tests.{not-true, not-false}
 use borrow.Author.Needs.{needs}
 use native.Mathlib.Omega.{arith}
 use mathlib.Core.List.{List, []}
-use mathlib.Core.Bool.{true, false}
 use mathlib.Core.Path.{_≡_, refl, sym, _∙_}
 use Prim.Native.Nat.{ℕ, _+_, _-_, _*_, _<_, _≤_}
 use Rattle.mcs.proofs.reader.size_of.Statement.{statement}
