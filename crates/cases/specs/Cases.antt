@@ -2,20 +2,29 @@
 use Prim.Native.Nat.{ℕ, _≤_}
 use mathlib.Core.Path.{_≡_}
 use mathlib.Core.List.{List, [], _∷_, _++_}
-use lib.ListN.{length}
+use lib.ListN.{length, take, replicate}
 use Rattle.packets.specs.Answers.{imageAnswer}
 use Rattle.packets.specs.declared.image.ImageAnswer.{ImageAnswer}
 use Rattle.packets.specs.declared.image.ImageAnswer.the-variants.{Accepted, Refused}
+use Rattle.mcs.specs.Answers.{readAnswer, readOutput}
+use Rattle.mcs.specs.declared.reader.ReadAnswer.{ReadAnswer}
+use Rattle.mcs.specs.declared.reader.ReadAnswer.the-variants.{Read, Refused as TextRefused}
 
--- what the paper says of a case: what loads, or a refusal's number and place
+-- what the paper says of a case: what loads, which image a text holds, or a refusal's number and place
 pub data Says : Type 0 where
   loads : (sync end writes : ℕ) → Says
+  reads : (image : List ℕ) → Says
   refuses : (number place : ℕ) → Says
 
 -- what a call answers, in the paper's values
 unfoldable pub imageSays : ImageAnswer → Says
 imageSays (Accepted sync end writes) = loads sync end writes
 imageSays (Refused number place) = refuses number place
+
+-- the same of a text read into a buffer: the bytes that the answer says are there
+unfoldable pub textSays : ReadAnswer → List ℕ → Says
+textSays (Read n) output = reads (take n output)
+textSays (TextRefused number place) output = refuses number place
 
 -- a case: the call, on any bytes that follow where the paper says "and more", and what the paper says of it
 pub record Row : Type 0 where
@@ -39,6 +48,16 @@ image bytes said = record { asks = λ rest. imageSays (imageAnswer bytes); room 
 abbrev pub imageAndMore : List ℕ → ℕ → Says → Row
 imageAndMore bytes room said = record { asks = λ rest. imageSays (imageAnswer (bytes ++ rest)); room = room; says = said }
 
+-- a text read into a buffer of 12 bytes and any more
+abbrev pub text : List ℕ → Says → Row
+text bytes said = record { asks = λ rest. textSays (readAnswer bytes (replicate 12 0 ++ rest)) (readOutput bytes (replicate 12 0 ++ rest)); room = 16777204; says = said }
+
+-- `:0C000000AA995566300080010000000D38` and the end line
+abbrev pub twelveText : List ℕ
+twelveText =
+    0x3A ∷ 0x30 ∷ 0x43 ∷ 0x30 ∷ 0x30 ∷ 0x30 ∷ 0x30 ∷ 0x30 ∷ 0x30 ∷ 0x41 ∷ 0x41 ∷ 0x39 ∷ 0x39 ∷ 0x35 ∷ 0x35 ∷ 0x36 ∷ 0x36 ∷ 0x33 ∷ 0x30 ∷ 0x30 ∷ 0x30 ∷ 0x38 ∷ 0x30 ∷ 0x30 ∷ 0x31 ∷ 0x30 ∷ 0x30 ∷ 0x30 ∷ 0x30 ∷ 0x30 ∷ 0x30 ∷ 0x30 ∷ 0x44 ∷ 0x33 ∷ 0x38 ∷ 0x0A
+    ∷ 0x3A ∷ 0x30 ∷ 0x30 ∷ 0x30 ∷ 0x30 ∷ 0x30 ∷ 0x30 ∷ 0x30 ∷ 0x31 ∷ 0x46 ∷ 0x46 ∷ 0x0A ∷ []
+
 -- AA995566 30008001 0000000F
 abbrev pub jumping : List ℕ
 jumping = 0xAA ∷ 0x99 ∷ 0x55 ∷ 0x66 ∷ 0x30 ∷ 0x00 ∷ 0x80 ∷ 0x01 ∷ 0x00 ∷ 0x00 ∷ 0x00 ∷ 0x0F ∷ []
@@ -55,4 +74,6 @@ rows =
     ∷ image (0xAA ∷ 0x99 ∷ 0x55 ∷ 0x66 ∷ 0x50 ∷ 0x00 ∷ 0x00 ∷ 0x01 ∷ []) (refuses 5 4)
     -- no bytes: 4
     ∷ image [] (refuses 4 0)
+    -- the line and the end line: the 12-byte image
+    ∷ text twelveText (reads (0xAA ∷ 0x99 ∷ 0x55 ∷ 0x66 ∷ 0x30 ∷ 0x00 ∷ 0x80 ∷ 0x01 ∷ 0x00 ∷ 0x00 ∷ 0x00 ∷ 0x0D ∷ []))
     ∷ []

@@ -1,8 +1,8 @@
 -- `lists` is safe and ends.
 use Prim.Native.Nat.{_-_, _≤_}
 use borrow.Author.Needs.{needs}
-use Rattle.cases.proofs.lists.Statement.{statement}
-use Rattle.cases.proofs.lists.Tie as tie
+use Rattle.cases.proofs.packet.lists.Statement.{statement}
+use Rattle.cases.proofs.packet.lists.Tie as tie
 
 abbrev Inv-loop : tie.InvT-loop
 Inv-loop bytes number cursor₀ tally₀ i₀ cursor tally i = i ≤ number

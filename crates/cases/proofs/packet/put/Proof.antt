@@ -4,8 +4,8 @@ use mathlib.Core.Path.{_≡_}
 use native.Mathlib.Omega.{arith}
 use borrow.Author.Needs.{needs}
 use lib.ListN.{length, length-set}
-use Rattle.cases.proofs.put.Statement.{statement}
-use Rattle.cases.proofs.put.Tie as tie
+use Rattle.cases.proofs.packet.put.Statement.{statement}
+use Rattle.cases.proofs.packet.put.Tie as tie
 
 abbrev Inv-loop : tie.InvT-loop
 Inv-loop bytes₀ at words i₀ to₀ bytes i to = (length bytes ≡ length bytes₀) × (i ≤ length words)

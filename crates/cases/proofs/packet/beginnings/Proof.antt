@@ -2,8 +2,8 @@
 use Prim.Native.Nat.{_-_}
 use borrow.Author.Needs.{needs}
 use lib.ListN.{length}
-use Rattle.cases.proofs.beginnings.Statement.{statement}
-use Rattle.cases.proofs.beginnings.Tie as tie
+use Rattle.cases.proofs.packet.beginnings.Statement.{statement}
+use Rattle.cases.proofs.packet.beginnings.Tie as tie
 
 abbrev Inv-loop : tie.InvT-loop
 Inv-loop image tally₀ n₀ tally n = Unit {0}
