@@ -84,7 +84,7 @@ add-after-2 : tie.Need-add-after-2
 add-after-2 c = search needs
 
 ending-requires : tie.Need-ending-requires
-ending-requires c κs = search needs
+ending-requires c κs = omega arith
 
 returns-5 : tie.Need-returns-5
 unfolding ShapeIs
