@@ -84,7 +84,8 @@ fn ending(text: &[u8], at: usize) -> usize
     if text[at + 1] == LF { 2 } else { 0 }
 }
 
-// The characters of the line at `at`.
+// The characters of the line at `at`: a colon, as many pairs as its count says and five more, and a
+// line end, so 12 characters at least.
 fn shape_of(values: &[u8], text: &[u8], at: usize) -> Shape
     requires { ⌜ (at < length (now text)) × DigitTable (now values) ⌝ }
     ensures { λ r. ⌜ ShapeIs (now (text .entry)) at r ⌝ }

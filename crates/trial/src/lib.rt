@@ -38,12 +38,15 @@ pub fn front(bytes: &[u8], n: usize) -> &[u8]
     if n <= bytes.len() { &bytes[..n] } else { bytes }
 }
 
-// Prints a group's line.
-pub fn say(name: &[u8], t: Tally) {
+// Prints a group's line; how many came out otherwise.
+pub fn say(name: &[u8], t: Tally) -> u32
+    ensures { λ r. ⌜ r ≡ t .wrong ⌝ }
+{
     io::write_all(1, name);
     io::write_all(1, b" tried ");
     io::print_decimal(1, t.tried as u64);
     io::write_all(1, b" wrong ");
     io::print_decimal(1, t.wrong as u64);
     io::write_all(1, b"\n");
+    t.wrong
 }
