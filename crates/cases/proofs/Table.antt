@@ -9,12 +9,12 @@ use Rattle.packets.specs.Packet.{ask, registerOk, type1Of, type2Of, headOf, eff
 use Rattle.packets.specs.Reading.{modeOf, afterHeader, trace, finish, readAt, searchFrom, jump}
 use Rattle.packets.specs.Answers.{imageLength, aloneCase, imageAnswer}
 use Rattle.mcs.specs.Text.{digits, total}
-use Rattle.mcs.specs.Reading.{ask as mcs-ask, placeIn, digitOf, before, linesOf, isEnding, onto, bySpelled, spelledBy, lineSpells, byType, typed, parsed, byParsed, follows, none, readFrom}
+use Rattle.mcs.specs.Reading.{ask as mcs-ask, placeIn, digitOf, before, linesOf, isEnding, onto, bySpelled, spelledBy, lineSpells, byType, typed, parsed, byParsed, follows, isEmpty, readFrom}
 use Rattle.mcs.specs.Answers.{answerOf, filledBy}
 use Rattle.cases.specs.Cases.{imageSays, textSays, All, jumping, rows}
 
 table : All rows
-unfolding All rows imageSays textSays answerOf filledBy readFrom byParsed follows parsed bySpelled typed byType lineSpells spelledBy onto isEnding none linesOf before digitOf placeIn digits total mcs-ask imageAnswer imageLength aloneCase ask readAt searchFrom jump find starts words trace finish afterHeader modeOf headOf type1Of type2Of registerOk effectOf
+unfolding All rows imageSays textSays answerOf filledBy readFrom byParsed follows parsed bySpelled typed byType lineSpells spelledBy onto isEnding isEmpty linesOf before digitOf placeIn digits total mcs-ask imageAnswer imageLength aloneCase ask readAt searchFrom jump find starts words trace finish afterHeader modeOf headOf type1Of type2Of registerOk effectOf
 table = (
   λ rest h. refl,
   (

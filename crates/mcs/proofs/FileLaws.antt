@@ -8,7 +8,7 @@ use borrow.Author.Tests.{eqb-true, eq-eqb, le-leb, leb-true}
 use lib.Dec.{eqb}
 use lib.ListN.{length}
 use Rattle.mcs.specs.Text.{LF, CR, COLON, hex, Ending, Lf, CrLf, endingText, lineText, Record, Data, Upper, End, pairsOf, Line, Row, recordText, fileText, AllBytes, Fit, FileFrom, FileOf}
-use Rattle.mcs.specs.Reading.{ask, Parsed, Is, Refuses, parsed, follows, before, linesOf, none, Holds, readFrom, readText}
+use Rattle.mcs.specs.Reading.{ask, Parsed, Is, Refuses, parsed, follows, before, linesOf, isEmpty, Holds, readFrom, readText}
 use Rattle.mcs.proofs.LineLaws.{lines-none, lines-lf, lines-on, before-line}
 use Rattle.mcs.proofs.ReadingLaws.{read-none, read-refused, read-apart, read-data, read-upper, read-end, read-more, none-none, none-some}
 use Rattle.mcs.proofs.FillLaws.{refused-holds}
@@ -97,7 +97,7 @@ file-reads (Row (Upper upper) e ∷ lines) place half image whole h =
     (read-upper t l place half image upper (text-parsed (Upper upper) e (h .0)) ∙ file-reads lines (place + length t) upper image whole (h .1))
 file-reads (Row End e ∷ lines) place half image whole h =
     rw (lines-file End e lines fit-end)
-    (read-end (recordText (Row End e)) (linesOf (fileText lines)) place half image (text-parsed End e fit-end) (ap (λ (l : List Line). none (linesOf (fileText l))) (h .0) ∙ ap none no-file ∙ none-none)
+    (read-end (recordText (Row End e)) (linesOf (fileText lines)) place half image (text-parsed End e fit-end) (ap (λ (l : List Line). isEmpty (linesOf (fileText l))) (h .0) ∙ ap isEmpty no-file ∙ none-none)
     ∙ ap Holds (h .1))
 
 -- A text that holds an image is that of a file of it.
@@ -105,7 +105,7 @@ file-reads (Row End e ∷ lines) place half image whole h =
 abbrev Written : ℕ → List ℕ → List (List ℕ) → List ℕ → Type 0
 Written half image texts whole = (lines : List Line) × ((joined texts ≡ fileText lines) × FileFrom half image lines whole)
 
-no-lines-left : (texts : List (List ℕ)) → none texts ≡ true → texts ≡ []
+no-lines-left : (texts : List (List ℕ)) → isEmpty texts ≡ true → texts ≡ []
 no-lines-left [] e = refl
 no-lines-left (text ∷ texts) e = let f : false ≡ true = sym (none-some text texts) ∙ e in let z : _≡_ {A = ℕ} 0 1 = cc in absurd (omega arith)
 
@@ -131,7 +131,7 @@ reads-file (text ∷ texts) place half image whole e = go (parsed text) refl (λ
         (Row (Data address bytes) (t .0) ∷ w .0, (written-more text texts (Row (Data address bytes) (t .0)) (w .0) (t .1 .0) (w .1 .0), (t .1 .1, a .0, a .1, w .1 .1)))
     rule false address bytes p f ih = absurd (refused-holds (sym (read-apart text texts place half image address bytes p f) ∙ e))
 
-    last : (b : Bool) → parsed text ≡ Is End → none texts ≡ b → Written half image (text ∷ texts) whole
+    last : (b : Bool) → parsed text ≡ Is End → isEmpty texts ≡ b → Written half image (text ∷ texts) whole
     last true p f =
         let t : (x : Ending) × ((text ≡ recordText (Row End x)) × Fit End) = parsed-text text End p in
         let h : Holds image ≡ Holds whole = sym (read-end text texts place half image p f) ∙ e in
@@ -147,7 +147,7 @@ reads-file (text ∷ texts) place half image whole e = go (parsed text) refl (λ
         let w : Written upper image texts whole = ih upper image (sym (read-upper text texts place half image upper p) ∙ e) in
         let t : (x : Ending) × ((text ≡ recordText (Row (Upper upper) x)) × Fit (Upper upper)) = parsed-text text (Upper upper) p in
         (Row (Upper upper) (t .0) ∷ w .0, (written-more text texts (Row (Upper upper) (t .0)) (w .0) (t .1 .0) (w .1 .0), (t .1 .1, w .1 .1)))
-    go (Is End) p ih = last (none texts) p refl
+    go (Is End) p ih = last (isEmpty texts) p refl
 
 -- THE READER AND THE FORMAT: the text of a file of an image holds the image, and a text that holds an image is that of a file of it.
 

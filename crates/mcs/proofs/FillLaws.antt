@@ -1,5 +1,5 @@
 -- Laws of the second pass: a text that holds an image for which there is room is written to its end.
-use Prim.Native.Nat.{ℕ, _+_, _-_, _*_, _<_, _≤_}
+use Prim.Native.Nat.{ℕ, _+_, _-_, _<_, _≤_}
 use mathlib.Core.Path.{_≡_, refl, sym, ap, ap₂, _∙_}
 use mathlib.Core.Bool.{Bool, true, false}
 use mathlib.Core.List.{List, [], _∷_, _++_}
@@ -9,13 +9,13 @@ use lib.Dec.{ltb}
 use lib.ListN.{length, drop, length-append, length-drop}
 use lib.Seq.{paste, take-at, take-length, drop-append-add, drop-drop}
 use Rattle.mcs.specs.Text.{Data, Upper, End}
-use Rattle.mcs.specs.Reading.{ask, Parsed, Is, Refuses, parsed, follows, none, Reading, Holds, Refused, readFrom, readText}
+use Rattle.mcs.specs.Reading.{ask, Parsed, Is, Refuses, parsed, follows, isEmpty, Reading, Holds, Refused, readFrom, readText}
 use Rattle.mcs.specs.Answers.{filledBy}
 use Rattle.mcs.specs.Place.{ArePairs, pairsAt, lineAt, Sound, asLine, Fits}
 use Rattle.mcs.specs.declared.line.Line.{Line}
 use Rattle.mcs.specs.declared.line.Line.the-variants.{Data as DataLine, Upper as UpperLine, End as EndLine, Refused as LineRefused}
 use Rattle.mcs.proofs.LineLaws.{line-long}
-use Rattle.mcs.proofs.ReadingLaws.{readAt, after, read-none, read-refused, read-apart, read-data, read-upper, read-end, read-more, at-none, at-refused, at-apart, at-data, at-upper, at-end, at-more, line-data, line-upper, line-end, line-refused, DataAt, data-at}
+use Rattle.mcs.proofs.ReadingLaws.{readAt, after, read-none, read-refused, read-apart, read-data, read-upper, read-end, read-more, at-none, at-refused, at-apart, at-data, at-upper, at-end, at-more, line-upper, line-end, line-refused, DataAt, told-bytes, told-data}
 
 pub refused-holds : {number place : ℕ} {image : List ℕ} → Refused number place ≡ Holds image → ⊥
 refused-holds e = let z : _≡_ {A = ℕ} 0 1 = cc in omega arith
@@ -43,7 +43,7 @@ grows (line ∷ lines) place half image whole e = go (parsed line) refl (λ uppe
         let l : length (image ++ bytes) ≡ length image + length bytes = length-append image bytes in omega arith
     by-rule ih false address bytes p f = absurd (refused-holds (sym (read-apart line lines place half image address bytes p f) ∙ e))
 
-    by-none : (b : Bool) → parsed line ≡ Is End → none lines ≡ b → length image ≤ length whole
+    by-none : (b : Bool) → parsed line ≡ Is End → isEmpty lines ≡ b → length image ≤ length whole
     by-none true p f = let h : Holds image ≡ Holds whole = sym (read-end line lines place half image p f) ∙ e in let g : image ≡ whole = cc in rw g (omega arith)
     by-none false p f = absurd (refused-holds (sym (read-more line lines place half image p f) ∙ e))
 
@@ -51,7 +51,7 @@ grows (line ∷ lines) place half image whole e = go (parsed line) refl (λ uppe
     go (Refuses number) p ih = absurd (refused-holds (sym (read-refused line lines place half image number p) ∙ e))
     go (Is (Data address bytes)) p ih = by-rule ih (follows half address (length image) (length bytes)) address bytes p refl
     go (Is (Upper upper)) p ih = ih upper image (sym (read-upper line lines place half image upper p) ∙ e)
-    go (Is End) p ih = by-none (none lines) p refl
+    go (Is End) p ih = by-none (isEmpty lines) p refl
 
 -- bytes put in after the image so far
 pasted : (image bytes before out pairs : List ℕ) (next count : ℕ) → length image ≡ next → length bytes ≡ count → out ≡ image ++ drop next before → pairs ≡ bytes →
@@ -124,21 +124,14 @@ module _ (text before out : List ℕ) (at next : ℕ) (filled : Filled text befo
 
       module _ (address count end : ℕ) (e : line ≡ DataLine address count end) where
         bytes-of : (bytes : List ℕ) × ((parsed (lineAt text at) ≡ Is (Data address bytes)) × (length bytes ≡ count) × (after text at ≡ end))
-        bytes-of = line-data (parsed (lineAt text at)) (after text at) address count end (sym is ∙ e)
+        bytes-of = told-bytes text at inside line is address count end e
 
         here : DataAt text at (bytes-of .0)
-        here = data-at text at address (bytes-of .0) inside (bytes-of .1 .0)
+        unfolding bytes-of
+        here = told-data text at inside line is address count end e
 
         pub fill-pairs : ArePairs text (at + 9) count
         fill-pairs = rw (bytes-of .1 .1) at (here .pairs)
-
-        pub fill-long : (at + 2 * count + 12 ≤ end) × (end ≤ length text)
-        fill-long =
-            let w : at + 2 * length (bytes-of .0) + 12 ≤ at + length (lineAt text at) = here .within in
-            let l : length (bytes-of .0) ≡ count = bytes-of .1 .1 in
-            let n : after text at ≡ end = bytes-of .1 .2 in
-            let b : (1 ≤ length (lineAt text at)) × (after text at ≤ length text) = line-long text at inside in
-            (omega arith, omega arith)
 
         -- the address rule was asked by the first pass
         ruled : readAt text (after text at) (filled .0) (filled .1 .0 ++ bytes-of .0) ≡ readText text

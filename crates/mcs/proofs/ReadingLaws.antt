@@ -6,11 +6,11 @@ use mathlib.Core.List.{List, [], _∷_, _++_}
 use native.Mathlib.Omega.{arith}
 use lib.ListN.{length, length-append, take, drop, drop-of-length-le}
 use Rattle.mcs.specs.Text.{Data, Upper, End}
-use Rattle.mcs.specs.Reading.{ask, countOf, twoAt, addressOf, Parsed, Is, Refuses, typed, parsed, byParsed, follows, linesOf, none, Reading, Holds, Refused, readFrom, readText}
+use Rattle.mcs.specs.Reading.{ask, countOf, twoAt, addressOf, Parsed, Is, Refuses, typed, parsed, byParsed, follows, linesOf, isEmpty, Reading, Holds, Refused, readFrom, readText}
 use Rattle.mcs.specs.Place.{pairAt, ArePairs, pairsAt, endingAt, lineAt, Sound, Orderly, asLine}
 use Rattle.mcs.specs.declared.line.Line.{Line}
 use Rattle.mcs.specs.declared.line.Line.the-variants.{Data as DataLine, Upper as UpperLine, End as EndLine, Refused as LineRefused}
-use Rattle.mcs.proofs.LineLaws.{line-first, line-long}
+use Rattle.mcs.proofs.LineLaws.{lines-none, line-first, line-long}
 use Rattle.mcs.proofs.PairLaws.{length-pairs, Typing, as-data, as-end, as-upper, as-none, typing, linePairs, count-is, data-is}
 use Rattle.mcs.proofs.ShapeLaws.{Formed, afterPairs, orderly, sound-formed, sound-typed}
 
@@ -37,24 +37,20 @@ module _ (line : List ℕ) (lines : List (List ℕ)) (place half : ℕ) (image :
   unfolding readFrom byParsed
   read-upper upper e = rw e refl
 
-  pub read-end : parsed line ≡ Is End → none lines ≡ true → readFrom (line ∷ lines) place half image ≡ Holds image
+  pub read-end : parsed line ≡ Is End → isEmpty lines ≡ true → readFrom (line ∷ lines) place half image ≡ Holds image
   unfolding readFrom byParsed ask
   read-end e f = rw e (rw f refl)
 
-  pub read-more : parsed line ≡ Is End → none lines ≡ false → readFrom (line ∷ lines) place half image ≡ Refused 18 (place + length line)
+  pub read-more : parsed line ≡ Is End → isEmpty lines ≡ false → readFrom (line ∷ lines) place half image ≡ Refused 18 (place + length line)
   unfolding readFrom byParsed ask
   read-more e f = rw e (rw f refl)
 
-no-lines : linesOf [] ≡ []
-unfolding linesOf
-no-lines = refl
-
-pub none-none : none [] ≡ true
-unfolding none
+pub none-none : isEmpty [] ≡ true
+unfolding isEmpty
 none-none = refl
 
-pub none-some : (line : List ℕ) (lines : List (List ℕ)) → none (line ∷ lines) ≡ false
-unfolding none
+pub none-some : (line : List ℕ) (lines : List (List ℕ)) → isEmpty (line ∷ lines) ≡ false
+unfolding isEmpty
 none-some line lines = refl
 
 -- The same by the line's place in the text.
@@ -66,7 +62,7 @@ module _ (text : List ℕ) where
   after at = at + length (lineAt text at)
 
   lines-end : (at : ℕ) → length text ≤ at → linesOf (drop at text) ≡ []
-  lines-end at h = ap linesOf (drop-of-length-le text h) ∙ no-lines
+  lines-end at h = ap linesOf (drop-of-length-le text h) ∙ lines-none
 
   pub at-none : (at half : ℕ) (image : List ℕ) → length text ≤ at → readAt at half image ≡ Refused 18 at
   at-none at half image h = rw (lines-end at h) (read-none at half image)
@@ -85,12 +81,12 @@ module _ (text : List ℕ) where
     at-upper upper e = rw (line-first text at inside) (read-upper (lineAt text at) (linesOf (drop (after at) text)) at half image upper e)
 
     pub at-end : parsed (lineAt text at) ≡ Is End → length text ≤ after at → readAt at half image ≡ Holds image
-    at-end e h = rw (line-first text at inside) (read-end (lineAt text at) (linesOf (drop (after at) text)) at half image e (ap none (lines-end (after at) h) ∙ none-none))
+    at-end e h = rw (line-first text at inside) (read-end (lineAt text at) (linesOf (drop (after at) text)) at half image e (ap isEmpty (lines-end (after at) h) ∙ none-none))
 
     pub at-more : parsed (lineAt text at) ≡ Is End → after at < length text → readAt at half image ≡ Refused 18 (after at)
     at-more e h =
         rw (line-first text at inside) (read-more (lineAt text at) (linesOf (drop (after at) text)) at half image e
-        (ap none (line-first text (after at) h) ∙ none-some (lineAt text (after at)) (linesOf (drop (after (after at)) text))))
+        (ap isEmpty (line-first text (after at) h) ∙ none-some (lineAt text (after at)) (linesOf (drop (after (after at)) text))))
 
 -- The code's form of a line, taken apart.
 
@@ -158,6 +154,23 @@ data-at text at address bytes inside e =
     shifted : (text : List ℕ) (at count : ℕ) → ArePairs text (at + 1) (count + 5) → ArePairs text (at + 9) count
     shifted text at count h j k = let e : at + 1 + 2 * (j + 4) ≡ at + 9 + 2 * j = omega arith in rw e at (h (j + 4) (omega arith))
 
+-- A data line that the code told of: its bytes, and how long it is.
+module _ (text : List ℕ) (at : ℕ) (inside : at < length text) (line : Line) (is : line ≡ asLine (parsed (lineAt text at)) (after text at))
+    (address count end : ℕ) (e : line ≡ DataLine address count end) where
+  pub told-bytes : (bytes : List ℕ) × ((parsed (lineAt text at) ≡ Is (Data address bytes)) × (length bytes ≡ count) × (after text at ≡ end))
+  told-bytes = line-data (parsed (lineAt text at)) (after text at) address count end (sym is ∙ e)
+
+  pub told-data : DataAt text at (told-bytes .0)
+  told-data = data-at text at address (told-bytes .0) inside (told-bytes .1 .0)
+
+  pub told-long : (at + 2 * count + 12 ≤ end) × (end ≤ length text)
+  told-long =
+      let w : at + 2 * length (told-bytes .0) + 12 ≤ at + length (lineAt text at) = told-data .within in
+      let l : length (told-bytes .0) ≡ count = told-bytes .1 .1 in
+      let n : after text at ≡ end = told-bytes .1 .2 in
+      let b : (1 ≤ length (lineAt text at)) × (after text at ≤ length text) = line-long text at inside in
+      (omega arith, omega arith)
+
 -- A pass over the text: how far it has come, and what the line before it adds.
 
 -- the lines before a place hold an image of so many bytes, and the text reads as from there on
@@ -188,27 +201,15 @@ module _ (text : List ℕ) (at half next : ℕ) (inside : at < length text) (rea
       rw (l .1) at (sym (reached .1 .1) ∙ at-more text at half (reached .0) inside (l .0) (omega arith))
 
   module _ (address count end : ℕ) (e : line ≡ DataLine address count end) where
-    pub pass-bytes : (bytes : List ℕ) × ((parsed (lineAt text at) ≡ Is (Data address bytes)) × (length bytes ≡ count) × (after text at ≡ end))
-    pass-bytes = line-data (parsed (lineAt text at)) (after text at) address count end (sym is ∙ e)
-
     pub pass-apart : follows half address next count ≡ false → readText text ≡ Refused 17 at
     pass-apart f =
-        sym (reached .1 .1) ∙ at-apart text at half (reached .0) inside address (pass-bytes .0) (pass-bytes .1 .0) (rw (reached .1 .0, pass-bytes .1 .1) f)
+        sym (reached .1 .1) ∙ at-apart text at half (reached .0) inside address ((told-bytes text at inside line is address count end e) .0) ((told-bytes text at inside line is address count end e) .1 .0) (rw (reached .1 .0, (told-bytes text at inside line is address count end e) .1 .1) f)
 
     pub pass-data : follows half address next count ≡ true → Reached text end half (next + count)
     pass-data f = (
-      reached .0 ++ pass-bytes .0,
+      reached .0 ++ (told-bytes text at inside line is address count end e) .0,
       (
-        length-append (reached .0) (pass-bytes .0) ∙ ap₂ _+_ (reached .1 .0) (pass-bytes .1 .1),
-        rw (pass-bytes .1 .2) at (sym (at-data text at half (reached .0) inside address (pass-bytes .0) (pass-bytes .1 .0) (rw (reached .1 .0, pass-bytes .1 .1) f)) ∙ reached .1 .1),
+        length-append (reached .0) ((told-bytes text at inside line is address count end e) .0) ∙ ap₂ _+_ (reached .1 .0) ((told-bytes text at inside line is address count end e) .1 .1),
+        rw ((told-bytes text at inside line is address count end e) .1 .2) at (sym (at-data text at half (reached .0) inside address ((told-bytes text at inside line is address count end e) .0) ((told-bytes text at inside line is address count end e) .1 .0) (rw (reached .1 .0, (told-bytes text at inside line is address count end e) .1 .1) f)) ∙ reached .1 .1),
       ),
     )
-
-    pub pass-long : (at + 2 * count + 12 ≤ end) × (end ≤ length text)
-    pass-long =
-        let d : DataAt text at (pass-bytes .0) = data-at text at address (pass-bytes .0) inside (pass-bytes .1 .0) in
-        let w : at + 2 * length (pass-bytes .0) + 12 ≤ at + length (lineAt text at) = d .within in
-        let l : length (pass-bytes .0) ≡ count = pass-bytes .1 .1 in
-        let n : after text at ≡ end = pass-bytes .1 .2 in
-        let b : (1 ≤ length (lineAt text at)) × (after text at ≤ length text) = line-long text at inside in
-        (omega arith, omega arith)

@@ -6,7 +6,7 @@ use lib.Dec.{eqb, ltb, leb}
 use lib.ListN.{length, getD, take, drop}
 use Rattle.mcs.specs.Text.{LF, CR, COLON, digits, Record, Data, Upper, End, total}
 
--- One question: where the answer is no the refusal, else what is asked next.
+-- One question: `otherwise` where the answer is no, else what comes next.
 unfoldable pub ask {ℓ} : {A : Type ℓ} → Bool → A → A → A
 ask true otherwise rest = rest
 ask false otherwise rest = otherwise
@@ -133,9 +133,10 @@ pub data Reading : Type 0 where
   Holds : (image : List ℕ) → Reading
   Refused : (number place : ℕ) → Reading
 
-unfoldable pub none : List (List ℕ) → Bool
-none [] = true
-none (line ∷ lines) = false
+-- are there no lines?
+unfoldable pub isEmpty : List (List ℕ) → Bool
+isEmpty [] = true
+isEmpty (line ∷ lines) = false
 
 -- Lines in order, from a place on, with the upper half in force and the image so far; the last is the end record, with nothing after it.
 unfoldable pub readFrom : List (List ℕ) → ℕ → ℕ → List ℕ → Reading
@@ -145,7 +146,7 @@ readFrom (line ∷ lines) place half image =
     (λ number. Refused number place)
     (λ address bytes. ask (follows half address (length image) (length bytes)) (Refused 17 place) (readFrom lines (place + length line) half (image ++ bytes)))
     (λ upper. readFrom lines (place + length line) upper image)
-    (ask (none lines) (Refused 18 (place + length line)) (Holds image))
+    (ask (isEmpty lines) (Refused 18 (place + length line)) (Holds image))
 
 abbrev pub readText : List ℕ → Reading
 readText text = readFrom (linesOf text) 0 0 []

@@ -1,5 +1,6 @@
 -- `reader::fill` meets its contract. The loop's invariant: the lines so far are written, and the text reads as from here on.
-use Rattle.mcs.proofs.FillLaws.{Filled, fill-start, fill-length, fill-none, fill-sound, fill-refused, fill-upper, fill-end, fill-pairs, fill-long, fill-data, fill-fits}
+use Rattle.mcs.proofs.ReadingLaws.{told-long}
+use Rattle.mcs.proofs.FillLaws.{Filled, fill-start, fill-length, fill-none, fill-sound, fill-refused, fill-upper, fill-end, fill-pairs, fill-data, fill-fits}
 use Rattle.mcs.specs.Place.{Fits}
 use Rattle.mcs.specs.Reading.{readText}
 use lib.ListN.{length}
@@ -48,7 +49,7 @@ add-decode c =
     let address = c .before .read .given .0 .0 in
     let count = c .before .read .given .0 .1 .0 in
     let end = c .before .read .given .0 .1 .1 .0 in
-    let long : (at + 2 * count + 12 ≤ end) × (end ≤ length text) = fill-long text before out at next filled fits inside _ is address count end told in
+    let long : (at + 2 * count + 12 ≤ end) × (end ≤ length text) = told-long text at inside _ is address count end told in
     record { fits = omega arith }
 
 decode-requires : tie.Need-decode-requires Inv-loop μ-loop
@@ -66,7 +67,7 @@ decode-requires c κs =
     let address = c .before .before .read .given .0 .0 in
     let count = c .before .before .read .given .0 .1 .0 in
     let end = c .before .before .read .given .0 .1 .1 .0 in
-    let long : (at + 2 * count + 12 ≤ end) × (end ≤ length text) = fill-long text before out at next filled fits inside _ is address count end told in
+    let long : (at + 2 * count + 12 ≤ end) × (end ≤ length text) = told-long text at inside _ is address count end told in
     let room : next + count ≤ length before = fill-fits text before out at next filled fits inside _ is address count end told in
     let same : length out ≡ length before = fill-length text before out at next filled fits in
     (omega arith, omega arith, fill-pairs text before out at next filled fits inside _ is address count end told, search needs)
@@ -86,7 +87,7 @@ add-next c =
     let address = c .before .before .before .before .before .read .given .0 .0 in
     let count = c .before .before .before .before .before .read .given .0 .1 .0 in
     let end = c .before .before .before .before .before .read .given .0 .1 .1 .0 in
-    let long : (at + 2 * count + 12 ≤ end) × (end ≤ length text) = fill-long text before out at next filled fits inside _ is address count end told in
+    let long : (at + 2 * count + 12 ≤ end) × (end ≤ length text) = told-long text at inside _ is address count end told in
     let room : next + count ≤ length before = fill-fits text before out at next filled fits inside _ is address count end told in
     record { fits = omega arith }
 
@@ -105,7 +106,7 @@ loop-less c =
     let address = c .before .before .before .before .before .read .given .0 .0 in
     let count = c .before .before .before .before .before .read .given .0 .1 .0 in
     let end = c .before .before .before .before .before .read .given .0 .1 .1 .0 in
-    let long : (at + 2 * count + 12 ≤ end) × (end ≤ length text) = fill-long text before out at next filled fits inside _ is address count end told in
+    let long : (at + 2 * count + 12 ≤ end) × (end ≤ length text) = told-long text at inside _ is address count end told in
     omega arith
 
 loop-again : tie.Need-loop-again Inv-loop μ-loop
@@ -123,7 +124,7 @@ loop-again c =
     let address = c .before .before .before .before .before .read .given .0 .0 in
     let count = c .before .before .before .before .before .read .given .0 .1 .0 in
     let end = c .before .before .before .before .before .read .given .0 .1 .1 .0 in
-    let long : (at + 2 * count + 12 ≤ end) × (end ≤ length text) = fill-long text before out at next filled fits inside _ is address count end told in
+    let long : (at + 2 * count + 12 ≤ end) × (end ≤ length text) = told-long text at inside _ is address count end told in
     (omega arith, rw (c .before .before .decode .ensures) (fill-data text before out at next filled fits inside _ is address count end told))
 
 enum-known-read-2 : tie.Need-enum-known-read-2 Inv-loop μ-loop

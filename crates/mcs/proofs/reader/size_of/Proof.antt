@@ -1,5 +1,5 @@
 -- `reader::size_of` meets its contract. The loop's invariant: the lines so far hold an image of `next` bytes, and the text reads as from here on.
-use Rattle.mcs.proofs.ReadingLaws.{Reached, at-none, pass-refused, pass-upper, pass-end, pass-more, pass-apart, pass-data, pass-long}
+use Rattle.mcs.proofs.ReadingLaws.{Reached, at-none, pass-refused, pass-upper, pass-end, pass-more, pass-apart, pass-data, told-long}
 use Rattle.mcs.specs.Place.{sizeOf}
 use Rattle.mcs.specs.Reading.{Holds, readText}
 use lib.ListN.{length}
@@ -40,7 +40,7 @@ follows-on-requires c κs =
     let address = c .before .read .given .0 .0 in
     let count = c .before .read .given .0 .1 .0 in
     let end = c .before .read .given .0 .1 .1 .0 in
-    let long : (at + 2 * count + 12 ≤ end) × (end ≤ length text) = pass-long text at upper next inside reached _ is address count end told in
+    let long : (at + 2 * count + 12 ≤ end) × (end ≤ length text) = told-long text at inside _ is address count end told in
     omega arith
 
 returns : tie.Need-returns Inv-loop μ-loop
@@ -72,7 +72,7 @@ add-next c =
     let address = c .before .before .before .read .given .0 .0 in
     let count = c .before .before .before .read .given .0 .1 .0 in
     let end = c .before .before .before .read .given .0 .1 .1 .0 in
-    let long : (at + 2 * count + 12 ≤ end) × (end ≤ length text) = pass-long text at upper next inside reached _ is address count end told in
+    let long : (at + 2 * count + 12 ≤ end) × (end ≤ length text) = told-long text at inside _ is address count end told in
     record { fits = omega arith }
 
 loop-less : tie.Need-loop-less Inv-loop μ-loop
@@ -88,7 +88,7 @@ loop-less c =
     let address = c .before .before .before .read .given .0 .0 in
     let count = c .before .before .before .read .given .0 .1 .0 in
     let end = c .before .before .before .read .given .0 .1 .1 .0 in
-    let long : (at + 2 * count + 12 ≤ end) × (end ≤ length text) = pass-long text at upper next inside reached _ is address count end told in
+    let long : (at + 2 * count + 12 ≤ end) × (end ≤ length text) = told-long text at inside _ is address count end told in
     omega arith
 
 loop-again : tie.Need-loop-again Inv-loop μ-loop
@@ -104,7 +104,7 @@ loop-again c =
     let address = c .before .before .before .read .given .0 .0 in
     let count = c .before .before .before .read .given .0 .1 .0 in
     let end = c .before .before .before .read .given .0 .1 .1 .0 in
-    let long : (at + 2 * count + 12 ≤ end) × (end ≤ length text) = pass-long text at upper next inside reached _ is address count end told in
+    let long : (at + 2 * count + 12 ≤ end) × (end ≤ length text) = told-long text at inside _ is address count end told in
     (omega arith, omega arith, pass-data text at upper next inside reached _ is address count end told (sym (c .before .follows-on .ensures) ∙ not-false _ (c .if1 .left)))
 
 enum-known-read-2 : tie.Need-enum-known-read-2 Inv-loop μ-loop
