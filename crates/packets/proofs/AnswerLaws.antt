@@ -1,9 +1,10 @@
 -- Laws of the answers: what an accepted image is, whoever asks.
-use Prim.Native.Nat.{ℕ, _+_, _≤_}
+use Prim.Native.Nat.{ℕ, _+_, _%_, _≤_}
 use mathlib.Core.Path.{_≡_, refl, ap, _∙_}
 use mathlib.Core.Bool.{Bool, true, false}
 use mathlib.Core.List.{List}
 use native.Mathlib.Omega.{arith}
+use borrow.Author.Tests.{leb-true, eqb-true}
 use lib.ListN.{length, take}
 use lib.Seq.{take-length}
 use native.Mathlib.Nat.{zero-add}
@@ -20,6 +21,27 @@ use Rattle.packets.specs.declared.image.ImageAnswer.{ImageAnswer}
 use Rattle.packets.specs.declared.image.ImageAnswer.the-variants.{Accepted, Refused}
 use Rattle.packets.proofs.ReadingLaws.{counted, Proper, proper, alone-parts}
 use Rattle.packets.proofs.CursorLaws.{given, nth-step}
+
+-- Where the answer is not the refusal, the question had a yes, and the rest gave the answer.
+pub asked {ℓ} : {A : Type ℓ} (b : Bool) (refused rest answer : A) → ask b refused rest ≡ answer → (refused ≡ answer → ⊥) → (b ≡ true) × (rest ≡ answer)
+unfolding ask
+asked true refused rest answer e differ = (refl, e)
+asked false refused rest answer e differ = absurd (differ e)
+
+pub false-true : false ≡ true → ⊥
+false-true e = let z : _≡_ {A = ℕ} 0 1 = cc in omega arith
+
+-- what question 1 says of a length, and question 4 of an image's
+pub length-allowed : (n : ℕ) → lengthAllowed n ≡ true → (16384 ≤ n) × (n ≤ 16777216) × (n % 4096 ≡ 0)
+unfolding lengthAllowed
+length-allowed n e =
+    let a = asked _ _ _ _ e false-true in
+    let b = asked _ _ _ _ (a .1) false-true in
+    (leb-true _ _ (a .0), leb-true _ _ (b .0), eqb-true _ _ (b .1))
+
+pub image-length : (longest n : ℕ) → imageLength longest n ≡ true → (1 ≤ n) × (n ≤ longest)
+unfolding imageLength
+image-length longest n e = let a = asked _ _ _ _ e false-true in (leb-true _ _ (a .0), leb-true _ _ (a .1))
 
 -- what an image's answer comes to for one who asks more
 unfoldable pub onAnswer {ℓ} : {A : Type ℓ} → (ℕ → ℕ → A) → (ℕ → ℕ → ℕ → A) → ImageAnswer → A
@@ -53,6 +75,11 @@ accepted-reads longest image sync end writes e = go (imageLength longest (length
         r ∙ cc
     go true (Iprog place) r q = let z : _≡_ {A = ℕ} 0 1 = cc in absurd (omega arith)
     go true (Stuck place) r q = let z : _≡_ {A = ℕ} 0 1 = cc in absurd (omega arith)
+
+-- and has a byte at least and fits its area,
+pub accepted-length : (longest : ℕ) (image : List ℕ) (sync end writes : ℕ) → askImage longest Refused Accepted image ≡ Accepted sync end writes → (1 ≤ length image) × (length image ≤ longest)
+accepted-length longest image sync end writes e =
+    image-length longest (length image) (asked _ _ _ _ e (λ q. let z : _≡_ {A = ℕ} 0 1 = cc in omega arith) .0)
 
 -- and its sync word stands whole in it.
 pub accepted-sync : (longest : ℕ) (image : List ℕ) (sync end writes : ℕ) → askImage longest Refused Accepted image ≡ Accepted sync end writes → sync + 4 ≤ length image

@@ -18,9 +18,10 @@ use Rattle.packets.specs.declared.writes.Write.{Write}
 use Rattle.packets.proofs.FramingLaws.{find-here, find-past, find-within, stands-at, words-cons, room}
 use Rattle.packets.proofs.ReadingLaws.{read-ended, read-jump, search-found, search-none, jump-on, alone-parts}
 use Rattle.packets.proofs.PlacementLaws.{find-moved, lookedTo, movedFinish, finish-moved, ended-after}
-pub use Rattle.packets.proofs.FramingLaws.{differs-at, word-of}
+pub use Rattle.packets.proofs.FramingLaws.{false-of, starts-at, starts-all, starts-differs, differs-at, word-of}
 pub use Rattle.packets.proofs.PlacementLaws.{movedWrite}
-pub use Rattle.packets.proofs.AnswerLaws.{onAnswer, by-answer, accepted-reads, accepted-sync, opened-rest, chip-steps, image-steps}
+unfoldable pub use Rattle.packets.proofs.AnswerLaws.{onAnswer}
+pub use Rattle.packets.proofs.AnswerLaws.{asked, false-true, length-allowed, by-answer, accepted-reads, accepted-length, accepted-sync, opened-rest, chip-steps, image-steps}
 
 -- Places apart, moved writes are the same writes.
 moved-contents : (d : ℕ) (writes : List Write) → contents (map (movedWrite d) writes) ≡ contents writes
@@ -90,6 +91,10 @@ local s t from sync end writes jumped alone fits stands left after =
     unmoved : (l : List Write) → map (movedWrite 0) l ≡ l
     unmoved [] = refl
     unmoved (w ∷ l) = ap₂ (λ (x : Write) (k : List Write). x ∷ k) (same w) (unmoved l)
+
+-- and ends within them.
+pub ends-within : (s : List ℕ) (from sync end writes : ℕ) (jumped : Bool) → readFrom 0 jumped s from ≡ Loaded sync end writes jumped → end ≤ length s
+ends-within s from sync end writes jumped alone = ended-after s (sync + 4) end writes (alone-parts jumped s from sync end writes jumped alone .1) .1
 
 -- NO SYNC WORD BEGINS at any of the k places from `at` on. (`differs-at` says where none does.)
 abbrev pub NoneIn : List ℕ → ℕ → ℕ → Type 0

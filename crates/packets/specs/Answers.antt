@@ -66,9 +66,13 @@ chipWrite chip i = ask (lengthAllowed (length chip)) (WriteRefused 1 0) (nthWrit
 unfoldable pub chipListing : List ℕ → Listing
 chipListing chip = ask (lengthAllowed (length chip)) (ListingRefused 1 0) (Open (cursorOf (readChip chip)))
 
+-- `image::check_within`
+abbrev pub imageWithin : ℕ → List ℕ → ImageAnswer
+imageWithin longest image = askImage longest ImageRefused Accepted image
+
 -- `image::check`
 unfoldable pub imageAnswer : List ℕ → ImageAnswer
-imageAnswer image = askImage longestImage ImageRefused Accepted image
+imageAnswer image = imageWithin longestImage image
 
 -- `image::write`
 unfoldable pub imageWrite : List ℕ → ℕ → WriteAnswer

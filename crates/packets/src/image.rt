@@ -1,7 +1,7 @@
 // An image read by itself. Its calls ask question 4 of its length, then whether it reads alone to
 // Loaded: with no jump to give, an IPROG is refused with 6, every other fault with 5.
 ghost use mathlib.Core.Path.{_≡_};
-ghost use Rattle.packets.specs.Answers.{imageLength, longestImage, aloneCase, imageAnswer, imageWrite, imageListing};
+ghost use Rattle.packets.specs.Answers.{imageLength, aloneCase, imageWithin, imageAnswer, imageWrite, imageListing};
 use crate::reader::Outcome;
 use crate::reader::read_alone;
 use crate::writes::Cursor;
@@ -22,13 +22,14 @@ pub enum ImageAnswer {
     },
 }
 
-fn length_allowed(length: usize) -> bool
-    ensures { λ r. ⌜ r ≡ imageLength longestImage length ⌝ }
+// Question 4: has the image 1 byte to its area's length?
+fn length_allowed(longest: usize, length: usize) -> bool
+    ensures { λ r. ⌜ r ≡ imageLength longest length ⌝ }
 {
     if length == 0 {
         return false;
     }
-    length <= 16_777_216
+    length <= longest
 }
 
 // The refusal number of a reading that is not Loaded.
@@ -63,11 +64,11 @@ fn place_of(outcome: Outcome) -> usize
     }
 }
 
-// The image check: what an image loads by itself, or 4, 5 or 6.
-pub fn check(image: &[u8]) -> ImageAnswer
-    ensures { λ r. ⌜ r ≡ imageAnswer (now (image .entry)) ⌝ }
+// The image check for an area of so many bytes: what the image loads by itself, or 4, 5 or 6.
+pub fn check_within(image: &[u8], longest: usize) -> ImageAnswer
+    ensures { λ r. ⌜ r ≡ imageWithin longest (now (image .entry)) ⌝ }
 {
-    if !length_allowed(image.len()) {
+    if !length_allowed(longest, image.len()) {
         return ImageAnswer::Refused {
             number: 4,
             place: 0,
@@ -87,6 +88,13 @@ pub fn check(image: &[u8]) -> ImageAnswer
         };
     };
     ImageAnswer::Accepted { sync, end, writes }
+}
+
+// The check of an image by itself, with no area that it must fit into.
+pub fn check(image: &[u8]) -> ImageAnswer
+    ensures { λ r. ⌜ r ≡ imageAnswer (now (image .entry)) ⌝ }
+{
+    check_within(image, 16_777_216)
 }
 
 // The i-th write, counted from 0, of an image read by itself.
