@@ -1,0 +1,62 @@
+-- Laws of bytes in their places: a span of a chip, and a chip with other bytes over a span.
+use Prim.Native.Nat.{ℕ, zero, suc, _+_, _-_, _<_, _≤_}
+use mathlib.Core.Path.{_≡_, refl, sym, ap, _∙_}
+use mathlib.Core.List.{List, [], _∷_, _++_, append-assoc}
+use native.Mathlib.Omega.{arith}
+use lib.ListN.{length, getD, take, drop, length-append, length-drop, List·getD-append}
+use lib.Seq.{paste, take-length, length-take-le, getD-take, getD-drop, getD-append-add, take-append-le, drop-append-le}
+use Rattle.chip.specs.Flash.{span, over}
+
+pub span-at : (chip : List ℕ) (place count i : ℕ) → i < count → getD (span chip place count) i 0 ≡ getD chip (place + i) 0
+span-at chip place count i h = getD-take count (drop place chip) i 0 h ∙ getD-drop place chip i 0
+
+pub span-length : (chip : List ℕ) (place count : ℕ) → place + count ≤ length chip → length (span chip place count) ≡ count
+span-length chip place count h = length-take-le count (drop place chip) (simp length-drop (omega arith))
+
+-- inside a list it does not matter what is read outside
+pub getD-any : (l : List ℕ) (i d e : ℕ) → i < length l → getD l i d ≡ getD l i e
+getD-any [] i d e h = absurd (omega arith)
+getD-any (x ∷ l) zero d e h = refl
+getD-any (x ∷ l) (suc i) d e h = getD-any l i d e (omega arith)
+
+module _ (chip : List ℕ) (place : ℕ) (bytes : List ℕ) (fits : place + length bytes ≤ length chip) where
+  front : length (take place chip) ≡ place
+  front = length-take-le place chip (omega arith)
+
+  pub over-length : length (over chip place bytes) ≡ length chip
+  over-length =
+      length-append (take place chip) (bytes ++ drop (place + length bytes) chip)
+      ∙ rw (front, length-append bytes (drop (place + length bytes) chip), length-drop (place + length bytes) chip) (omega arith)
+
+  pub over-before : (i d : ℕ) → i < place → getD (over chip place bytes) i d ≡ getD chip i d
+  over-before i d h =
+      List·getD-append (take place chip) (bytes ++ drop (place + length bytes) chip) d i (rw front h)
+      ∙ getD-take place chip i d h
+
+  rest-at : (i d : ℕ) → getD (over chip place bytes) (place + i) d ≡ getD (bytes ++ drop (place + length bytes) chip) i d
+  rest-at i d = rw front at (getD-append-add (take place chip) (bytes ++ drop (place + length bytes) chip) i d)
+
+  pub over-inside : (i d : ℕ) → i < length bytes → getD (over chip place bytes) (place + i) d ≡ getD bytes i d
+  over-inside i d h = rest-at i d ∙ List·getD-append bytes (drop (place + length bytes) chip) d i h
+
+  pub over-after : (i d : ℕ) → place + length bytes ≤ i → getD (over chip place bytes) i d ≡ getD chip i d
+  over-after i d h =
+      let k : ℕ = i - place - length bytes in
+      let e : i ≡ place + (length bytes + k) = omega arith in
+      let f : place + length bytes + k ≡ place + (length bytes + k) = omega arith in
+      ap (λ (n : ℕ). getD (over chip place bytes) n d) e
+      ∙ rest-at (length bytes + k) d
+      ∙ getD-append-add bytes (drop (place + length bytes) chip) k d
+      ∙ getD-drop (place + length bytes) chip k d
+      ∙ ap (λ (n : ℕ). getD chip n d) (f ∙ sym e)
+
+  -- what stands after the chip is not touched
+  pub over-append : (more : List ℕ) → over (chip ++ more) place bytes ≡ over chip place bytes ++ more
+  over-append more =
+      rw (take-append-le place chip more (omega arith), drop-append-le (place + length bytes) chip more fits)
+      (ap (λ (l : List ℕ). take place chip ++ l) (sym (append-assoc bytes (drop (place + length bytes) chip) more))
+      ∙ sym (append-assoc (take place chip) (bytes ++ drop (place + length bytes) chip) more))
+
+-- a copy of all bytes puts them over what stood there
+pub paste-over : (chip : List ℕ) (place : ℕ) (bytes : List ℕ) → paste chip place bytes (length bytes) ≡ over chip place bytes
+paste-over chip place bytes = rw (take-length bytes) (append-assoc (take place chip) bytes (drop (place + length bytes) chip))
