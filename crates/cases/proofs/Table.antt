@@ -7,14 +7,16 @@ use lib.ListN.{length, replicate}
 use Rattle.packets.specs.Framing.{starts, find, words}
 use Rattle.packets.specs.Packet.{ask, registerOk, type1Of, type2Of, headOf, effectOf}
 use Rattle.packets.specs.Reading.{modeOf, afterHeader, trace, finish, readAt, searchFrom, jump}
-use Rattle.packets.specs.Answers.{imageLength, aloneCase, imageAnswer}
+use Rattle.packets.specs.Answers.{lengthAllowed, imageLength, aloneCase, imageAnswer}
+use Rattle.chip.specs.Layout.{updateAllowed, areaAllowed, askLayout}
+use Rattle.chip.specs.Answers.{layoutAnswer, switchCase, switchAnswer}
 use Rattle.mcs.specs.Text.{digits, total}
 use Rattle.mcs.specs.Reading.{ask as mcs-ask, placeIn, digitOf, before, linesOf, isEnding, onto, bySpelled, spelledBy, lineSpells, byType, typed, parsed, byParsed, follows, isEmpty, readFrom}
 use Rattle.mcs.specs.Answers.{answerOf, filledBy}
-use Rattle.cases.specs.Cases.{imageSays, textSays, All, jumping, rows}
+use Rattle.cases.specs.Cases.{imageSays, textSays, layoutSays, switchSays, All, jumping, rows}
 
 table : All rows
-unfolding All rows imageSays textSays answerOf filledBy readFrom byParsed follows parsed bySpelled typed byType lineSpells spelledBy onto isEnding isEmpty linesOf before digitOf placeIn digits total mcs-ask imageAnswer imageLength aloneCase ask readAt searchFrom jump find starts words trace finish afterHeader modeOf headOf type1Of type2Of registerOk effectOf
+unfolding All rows imageSays textSays layoutSays switchSays answerOf filledBy readFrom byParsed follows parsed bySpelled typed byType lineSpells spelledBy onto isEnding isEmpty linesOf before digitOf placeIn digits total mcs-ask imageAnswer imageLength aloneCase ask readAt searchFrom jump find starts words trace finish afterHeader modeOf headOf type1Of type2Of registerOk effectOf layoutAnswer askLayout lengthAllowed updateAllowed areaAllowed switchAnswer switchCase
 table = (
   λ rest h. refl,
   (
@@ -26,8 +28,20 @@ table = (
         (
           λ rest h. refl,
           (
-            λ rest h. rw (le-leb 12 (length (replicate 12 0 ++ rest)) (omega arith)) refl,
-            tt,
+            λ rest h. refl,
+            (
+              λ rest h. refl,
+              (
+                λ rest h. refl,
+                (
+                  λ rest h. refl,
+                  (
+                    λ rest h. rw (le-leb 12 (length (replicate 12 0 ++ rest)) (omega arith)) refl,
+                    tt,
+                  ),
+                ),
+              ),
+            ),
           ),
         ),
       ),

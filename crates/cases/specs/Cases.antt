@@ -6,14 +6,23 @@ use lib.ListN.{length, take, replicate}
 use Rattle.packets.specs.Answers.{imageAnswer}
 use Rattle.packets.specs.declared.image.ImageAnswer.{ImageAnswer}
 use Rattle.packets.specs.declared.image.ImageAnswer.the-variants.{Accepted, Refused}
+use Rattle.chip.specs.Flash.{erased}
+use Rattle.chip.specs.Answers.{layoutOf, layoutAnswer, switchAnswer}
+use Rattle.chip.specs.declared.kind.LayoutAnswer.{LayoutAnswer}
+use Rattle.chip.specs.declared.kind.LayoutAnswer.the-variants.{Allowed, Refused as LayoutRefused}
+use Rattle.chip.specs.declared.switch.SwitchAnswer.{SwitchAnswer}
+use Rattle.chip.specs.declared.switch.SwitchAnswer.the-variants.{On, Off, Refused as SwitchRefused}
 use Rattle.mcs.specs.Answers.{readAnswer, readOutput}
 use Rattle.mcs.specs.declared.reader.ReadAnswer.{ReadAnswer}
 use Rattle.mcs.specs.declared.reader.ReadAnswer.the-variants.{Read, Refused as TextRefused}
 
--- what the paper says of a case: what loads, which image a text holds, or a refusal's number and place
+-- what the paper says of a case: what loads, which image a text holds, that a layout is allowed, that a switch is ON or OFF, or a refusal's number and place
 pub data Says : Type 0 where
   loads : (sync end writes : ℕ) → Says
   reads : (image : List ℕ) → Says
+  allows : Says
+  isOn : Says
+  isOff : Says
   refuses : (number place : ℕ) → Says
 
 -- what a call answers, in the paper's values
@@ -25,6 +34,15 @@ imageSays (Refused number place) = refuses number place
 unfoldable pub textSays : ReadAnswer → List ℕ → Says
 textSays (Read n) output = reads (take n output)
 textSays (TextRefused number place) output = refuses number place
+
+unfoldable pub layoutSays : LayoutAnswer → Says
+layoutSays Allowed = allows
+layoutSays (LayoutRefused number place) = refuses number place
+
+unfoldable pub switchSays : SwitchAnswer → Says
+switchSays On = isOn
+switchSays Off = isOff
+switchSays (SwitchRefused number place) = refuses number place
 
 -- a case: the call, on any bytes that follow where the paper says "and more", and what the paper says of it
 pub record Row : Type 0 where
@@ -52,6 +70,14 @@ imageAndMore bytes room said = record { asks = λ rest. imageSays (imageAnswer (
 abbrev pub text : List ℕ → Says → Row
 text bytes said = record { asks = λ rest. textSays (readAnswer bytes (replicate 12 0 ++ rest)) (readOutput bytes (replicate 12 0 ++ rest)); room = 16777204; says = said }
 
+-- a layout's F, U and A
+abbrev pub layout : ℕ → ℕ → ℕ → Says → Row
+layout length update area said = record { asks = λ rest. layoutSays (layoutAnswer (layoutOf length update area)); room = 0; says = said }
+
+-- a chip of 16,384 bytes with a switch word, else erased
+abbrev pub switch : List ℕ → Says → Row
+switch word said = record { asks = λ rest. switchSays (switchAnswer (erased 4092 ++ (word ++ erased 12288))); room = 0; says = said }
+
 -- `:0C000000AA995566300080010000000D38` and the end line
 abbrev pub twelveText : List ℕ
 twelveText =
@@ -74,6 +100,14 @@ rows =
     ∷ image (0xAA ∷ 0x99 ∷ 0x55 ∷ 0x66 ∷ 0x50 ∷ 0x00 ∷ 0x00 ∷ 0x01 ∷ []) (refuses 5 4)
     -- no bytes: 4
     ∷ image [] (refuses 4 0)
+    -- F 16,384 allowed
+    ∷ layout 16384 12288 4096 allows
+    -- F 12,288 gives 1
+    ∷ layout 12288 12288 4096 (refuses 1 0)
+    -- U 8,192 gives 2
+    ∷ layout 16384 8192 4096 (refuses 2 0)
+    -- switch AA 99 55 67: OFF
+    ∷ switch (0xAA ∷ 0x99 ∷ 0x55 ∷ 0x67 ∷ []) isOff
     -- the line and the end line: the 12-byte image
     ∷ text twelveText (reads (0xAA ∷ 0x99 ∷ 0x55 ∷ 0x66 ∷ 0x30 ∷ 0x00 ∷ 0x80 ∷ 0x01 ∷ 0x00 ∷ 0x00 ∷ 0x00 ∷ 0x0D ∷ []))
     ∷ []

@@ -1,5 +1,5 @@
 // Cases on which readings of the packet rules differ.
-use packets::chip;
+use packets::chip as loader;
 use packets::chip::BootAnswer;
 use packets::image;
 use packets::image::ImageAnswer;
@@ -104,7 +104,7 @@ fn chip_of(at: usize, words: &[u32], at2: usize, words2: &[u32]) -> [u8; 16384] 
 }
 
 fn loads(t: Tally, bytes: &[u8], sync: usize, end: usize, writes: usize, jumped: bool) -> Tally {
-    let answer = chip::boot(bytes);
+    let answer = loader::boot(bytes);
     let BootAnswer::Loaded {
         sync: s,
         end: e,
@@ -118,7 +118,7 @@ fn loads(t: Tally, bytes: &[u8], sync: usize, end: usize, writes: usize, jumped:
 }
 
 fn stuck(t: Tally, bytes: &[u8], place: usize) -> Tally {
-    let answer = chip::boot(bytes);
+    let answer = loader::boot(bytes);
     let BootAnswer::Stuck { place: p } = answer else {
         return counted(t, false);
     };
@@ -126,7 +126,7 @@ fn stuck(t: Tally, bytes: &[u8], place: usize) -> Tally {
 }
 
 fn no_chip(t: Tally, bytes: &[u8]) -> Tally {
-    let answer = chip::boot(bytes);
+    let answer = loader::boot(bytes);
     let BootAnswer::Refused { number, place } = answer else {
         return counted(t, false);
     };
@@ -134,7 +134,7 @@ fn no_chip(t: Tally, bytes: &[u8]) -> Tally {
 }
 
 fn writes(t: Tally, bytes: &[u8], i: usize, register: u32, word: u32, place: usize) -> Tally {
-    let answer = chip::write(bytes, i);
+    let answer = loader::write(bytes, i);
     let WriteAnswer::Found(w) = answer else {
         return counted(t, false);
     };
@@ -145,7 +145,7 @@ fn writes(t: Tally, bytes: &[u8], i: usize, register: u32, word: u32, place: usi
 }
 
 fn no_write(t: Tally, bytes: &[u8], i: usize) -> Tally {
-    let answer = chip::write(bytes, i);
+    let answer = loader::write(bytes, i);
     let WriteAnswer::Nothing = answer else {
         return counted(t, false);
     };
@@ -154,7 +154,7 @@ fn no_write(t: Tally, bytes: &[u8], i: usize) -> Tally {
 
 // A cursor gives as many writes as it should, each the one that its index fetches.
 fn lists(t: Tally, bytes: &[u8], number: usize) -> Tally {
-    let listing = chip::writes(bytes);
+    let listing = loader::writes(bytes);
     let Listing::Open(first) = listing else {
         return counted(t, false);
     };

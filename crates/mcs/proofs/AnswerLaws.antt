@@ -1,14 +1,18 @@
 -- Laws of the public call's answer: from what the first pass says of a reading.
-use Prim.Native.Nat.{ℕ, _<_, _≤_}
-use mathlib.Core.Path.{_≡_, refl}
-use mathlib.Core.List.{List}
+use Prim.Native.Nat.{ℕ, _*_, _<_, _≤_}
+use mathlib.Core.Path.{_≡_, refl, _∙_}
+use mathlib.Core.Bool.{Bool, true, false}
+use mathlib.Core.List.{List, _++_}
 use native.Mathlib.Omega.{arith}
 use borrow.Author.Tests.{le-leb, lt-leb}
-use lib.ListN.{length}
-use Rattle.mcs.specs.Reading.{ask, Reading, Holds, Refused}
-use Rattle.mcs.specs.Answers.{answerOf, filledBy}
+use lib.Dec.{leb}
+use lib.ListN.{length, take, drop, length-append}
+use lib.Seq.{take-at}
+use Rattle.mcs.specs.Reading.{ask, Reading, Holds, Refused, readText}
+use Rattle.mcs.specs.Answers.{answerOf, filledBy, readAnswer, readOutput}
 use Rattle.mcs.specs.Place.{sizeOf, Fits}
 use Rattle.mcs.specs.declared.reader.ReadAnswer.the-variants.{Read, Refused as ReadRefused}
+use Rattle.mcs.proofs.FileLaws.{holds-room}
 use Rattle.mcs.specs.declared.reader.Size.the-variants.{Total, Refused as SizeRefused}
 
 module _ (buffer : List ℕ) where
@@ -26,3 +30,33 @@ module _ (buffer : List ℕ) where
   unfolding sizeOf answerOf Fits ask
   good-answer (Holds image) n e h = let a : length image ≡ n = cc in (rw (le-leb (length image) (length buffer) (omega arith)) (rw a refl), omega arith)
   good-answer (Refused number place) n e h = let z : _≡_ {A = ℕ} 0 1 = cc in absurd (omega arith)
+
+-- What the call's answer says of the text.
+
+pub read-says : (text buffer : List ℕ) (n : ℕ) → readAnswer text buffer ≡ Read n →
+    (image : List ℕ) × ((readText text ≡ Holds image) × ((n ≤ length (readOutput text buffer)) × (take n (readOutput text buffer) ≡ image)))
+unfolding answerOf filledBy ask
+read-says text buffer n e = go (readText text) refl e
+  where
+    go : (r : Reading) → readText text ≡ r → answerOf r (length buffer) ≡ Read n → (image : List ℕ) × ((readText text ≡ Holds image) × ((n ≤ length (filledBy (readText text) buffer)) × (take n (filledBy (readText text) buffer) ≡ image)))
+    go (Refused number place) q a = let z : _≡_ {A = ℕ} 0 1 = cc in absurd (omega arith)
+    go (Holds image) q a = fits (leb (length image) (length buffer)) refl a
+      where
+        fits : (b : Bool) → leb (length image) (length buffer) ≡ b → ask b (ReadRefused 19 0) (Read (length image)) ≡ Read n → (image : List ℕ) × ((readText text ≡ Holds image) × ((n ≤ length (filledBy (readText text) buffer)) × (take n (filledBy (readText text) buffer) ≡ image)))
+        fits false l a = let z : _≡_ {A = ℕ} 0 1 = cc in absurd (omega arith)
+        fits true l a =
+            let long : length image ≡ n = cc in
+            let room : n ≤ length (image ++ drop (length image) buffer) = let m = length-append image (drop (length image) buffer) in omega arith in
+            (image, (q, (rw (q, l) room, rw (q, l) (take-at image (drop (length image) buffer) n long))))
+
+-- With a byte of room for every two characters it is never 19.
+pub refused-says : (text buffer : List ℕ) (number place : ℕ) → readAnswer text buffer ≡ ReadRefused number place → length text ≤ 2 * length buffer → readText text ≡ Refused number place
+unfolding answerOf ask
+refused-says text buffer number place e h = go (readText text) refl e
+  where
+    go : (r : Reading) → readText text ≡ r → answerOf r (length buffer) ≡ ReadRefused number place → readText text ≡ Refused number place
+    go (Refused n p) q a = let x : n ≡ number = cc in let y : p ≡ place = cc in q ∙ rw (x, y) refl
+    go (Holds image) q a =
+        let room : 2 * length image ≤ length text = holds-room text image q in
+        let b : Read (length image) ≡ ReadRefused number place = rw (le-leb (length image) (length buffer) (omega arith)) at a in
+        let z : _≡_ {A = ℕ} 0 1 = cc in absurd (omega arith)

@@ -6,8 +6,8 @@ use mathlib.Core.List.{List, [], _∷_, _++_}
 use native.Mathlib.Omega.{arith}
 use borrow.Author.Tests.{eqb-true, eq-eqb, le-leb, leb-true}
 use lib.Dec.{eqb}
-use lib.ListN.{length}
-use Rattle.mcs.specs.Text.{LF, CR, COLON, hex, Ending, Lf, CrLf, endingText, lineText, Record, Data, Upper, End, pairsOf, Line, Row, recordText, fileText, AllBytes, Fit, FileFrom, FileOf}
+use lib.ListN.{length, length-append}
+use Rattle.mcs.specs.Text.{LF, CR, COLON, hex, Ending, Lf, CrLf, endingText, lineText, Record, Data, Upper, End, bodyOf, sumOf, pairsOf, Line, Row, recordText, fileText, AllBytes, Fit, FileFrom, FileOf}
 use Rattle.mcs.specs.Reading.{ask, Parsed, Is, Refuses, parsed, follows, before, linesOf, isEmpty, Holds, readFrom, readText}
 use Rattle.mcs.proofs.LineLaws.{lines-none, lines-lf, lines-on, before-line}
 use Rattle.mcs.proofs.ReadingLaws.{read-none, read-refused, read-apart, read-data, read-upper, read-end, read-more, none-none, none-some}
@@ -158,3 +158,41 @@ pub holds-file : (text image : List ℕ) → readText text ≡ Holds image → (
 holds-file text image e =
     let w : Written 0 [] (linesOf text) image = reads-file (linesOf text) 0 0 [] image e in
     (w .0, (sym (joined-lines text) ∙ w .1 .0, w .1 .1))
+
+-- ROOM: a text has two characters and more for each byte of the image it holds.
+
+hex-long : (pairs : List ℕ) → length (hex pairs) ≡ 2 * length pairs
+unfolding hex
+hex-long [] = refl
+hex-long (p ∷ pairs) = let h = hex-long pairs in omega arith
+
+record-room : (address : ℕ) (bytes : List ℕ) (e : Ending) → 2 * length bytes ≤ length (recordText (Row (Data address bytes) e))
+unfolding recordText lineText pairsOf bodyOf
+record-room address bytes e =
+    let pairs = pairsOf (Data address bytes) in
+    let a : length pairs ≡ length (bodyOf (Data address bytes)) + 1 = length-append (bodyOf (Data address bytes)) (sumOf (bodyOf (Data address bytes)) ∷ []) in
+    let b = hex-long pairs in
+    let c = length-append (COLON ∷ hex pairs) (endingText e) in
+    omega arith
+
+file-room : (lines : List Line) (half : ℕ) (image whole : List ℕ) → FileFrom half image lines whole → 2 * length whole ≤ 2 * length image + length (fileText lines)
+unfolding FileFrom fileText
+file-room [] half image whole h = absurd h
+file-room (Row (Data address bytes) e ∷ lines) half image whole h =
+    let more = file-room lines half (image ++ bytes) whole (h .3) in
+    let a = length-append image bytes in
+    let b = length-append (recordText (Row (Data address bytes) e)) (fileText lines) in
+    let c = record-room address bytes e in
+    omega arith
+file-room (Row (Upper upper) e ∷ lines) half image whole h =
+    let more = file-room lines upper image whole (h .1) in
+    let b = length-append (recordText (Row (Upper upper) e)) (fileText lines) in
+    omega arith
+file-room (Row End e ∷ lines) half image whole h = let same : length image ≡ length whole = ap (λ (l : List ℕ). length l) (h .1) in omega arith
+
+pub holds-room : (text image : List ℕ) → readText text ≡ Holds image → 2 * length image ≤ length text
+holds-room text image e =
+    let w = holds-file text image e in
+    let long : length text ≡ length (fileText (w .0)) = ap (λ (l : List ℕ). length l) (w .1 .0) in
+    let room : 2 * length image ≤ 2 * 0 + length (fileText (w .0)) = file-room (w .0) 0 [] image (w .1 .1) in
+    omega arith

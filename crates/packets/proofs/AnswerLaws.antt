@@ -1,6 +1,6 @@
 -- Laws of the answers: what an accepted image is, whoever asks.
 use Prim.Native.Nat.{ℕ, _+_, _%_, _≤_}
-use mathlib.Core.Path.{_≡_, refl, ap, _∙_}
+use mathlib.Core.Path.{_≡_, refl, sym, ap, _∙_}
 use mathlib.Core.Bool.{Bool, true, false}
 use mathlib.Core.List.{List}
 use native.Mathlib.Omega.{arith}
@@ -117,3 +117,11 @@ image-steps image sync end writes k e =
     nth-step k image (cursorAt (sync + 4) writes)
     ∙ ap (λ (l : List Write). nthWrite l k) (counted-rest image sync end writes (p .1))
     ∙ (rw e at (by-answer WriteRefused (λ sync end writes. nthWrite (writesFrom image (sync + 4)) k) longestImage image))
+
+-- A reading that is Loaded lists as many writes as it counts.
+pub listed-length : (left : ℕ) (jumped : Bool) (s : List ℕ) (from sync end writes : ℕ) (after : Bool) → from ≤ length s → readFrom left jumped s from ≡ Loaded sync end writes after →
+    length (listed s (Loaded sync end writes after)) ≡ writes
+unfolding Proper listed
+listed-length left jumped s from sync end writes after l e =
+    let p = rw e at (proper left jumped s from l) in
+    sym (counted (traceFrom s (sync + 4)) 0 0 end writes (p .1) ∙ zero-add (length (writesFrom s (sync + 4))))

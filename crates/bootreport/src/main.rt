@@ -1,0 +1,33 @@
+// Reads an image file (MCS text) from standard input and prints what a chip built with its image
+// loads, or why there is no such chip. All of that is `report::text::report`; here it is read and
+// written.
+use report::refusal::ReportAnswer;
+use report::text::report;
+
+// One byte more than the longest text that is read, so that a longer one shows.
+fn input() -> [u8; 65537] {
+    [0; 65537]
+}
+
+// Room for the longest report: 2,046 writes, 27 bytes each, and two lines.
+fn output() -> [u8; 65536] {
+    [0; 65536]
+}
+
+fn main() {
+    let mut text = input();
+    let length = io::read_full(0, &mut text);
+    let mut out = output();
+    let answer = report(&text[..length], &mut out);
+    match answer {
+        ReportAnswer::Written { length } => {
+            io::write_all(1, &out[..length]);
+        }
+        ReportAnswer::Refused {
+            number: _,
+            place: _,
+        } => {
+            io::write_all(1, b"REFUSED 19 0\n");
+        }
+    }
+}

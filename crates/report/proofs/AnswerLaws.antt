@@ -1,0 +1,150 @@
+-- Laws of the answers: what the code comes to is what the public calls promise.
+use Prim.Native.Nat.{ℕ, _+_, _*_, _<_, _≤_}
+use mathlib.Core.Path.{_≡_, refl, sym, ap, ap₂, subst, _∙_}
+use mathlib.Core.Bool.{Bool, true, false}
+use mathlib.Core.List.{List, _++_}
+use native.Mathlib.Nat.{zero-add}
+use native.Mathlib.Omega.{arith}
+use borrow.Author.Tests.{le-leb, lt-leb}
+use lib.ListN.{length, drop, length-append}
+use lib.Seq.{take-all}
+use Rattle.packets.specs.Packet.{ask}
+use Rattle.packets.specs.Reading.{readChip, listed}
+use Rattle.packets.specs.Cursor.{rest}
+use Rattle.packets.specs.Answers.{lengthAllowed, bootCase, bootAnswer, chipListing, cursorOf}
+use Rattle.packets.specs.declared.reader.Outcome.{Outcome}
+use Rattle.packets.specs.declared.reader.Outcome.the-variants.{Loaded, Iprog, Stuck}
+use Rattle.packets.specs.declared.chip.BootAnswer.{BootAnswer}
+use Rattle.packets.specs.declared.chip.BootAnswer.the-variants.{Loaded as Boots, Stuck as IsStuck, Refused as BootRefused}
+use Rattle.packets.specs.declared.writes.Write.{Write}
+use Rattle.packets.specs.declared.writes.Cursor.{Cursor}
+use Rattle.packets.specs.declared.writes.Listing.the-variants.{Open, Refused as ListingRefused}
+use Rattle.packets.proofs.Laws.{opened-rest, listed-length}
+use Rattle.report.specs.Lines.{loadedLine, writeLines, endLine, stuckLine, reportOf, chipReport}
+use Rattle.report.specs.Answers.{written, filledBy, chipAnswer, chipOutput}
+use Rattle.report.specs.declared.refusal.ReportAnswer.the-variants.{Written, Refused}
+use Rattle.report.proofs.PutLaws.{Put}
+use Rattle.report.proofs.LineLaws.{length-loaded, length-writes}
+
+-- A text that does not fit is refused, and the buffer stays as it was.
+pub no-room : (text buffer : List ℕ) → length buffer < length text → (written text (length buffer) ≡ Refused 19 0) × (filledBy text buffer ≡ buffer)
+unfolding written filledBy ask
+no-room text buffer h = (rw (lt-leb (length text) (length buffer) h) refl, rw (lt-leb (length text) (length buffer) h) refl)
+
+-- A text that was put at the front of the buffer is the answer.
+pub put-answer : {text buffer after : List ℕ} {count : ℕ} → Put buffer 0 text count after → (written text (length buffer) ≡ Written count) × (filledBy text buffer ≡ after)
+unfolding written filledBy ask
+put-answer {text} {buffer} {after} {count} p =
+    let fits : length text ≤ length buffer = omega (arith, p .long, p .room) in
+    let place : length text ≡ 0 + count = p .long ∙ sym (zero-add count) in
+    let front : text ++ drop (length text) buffer ≡ after =
+    ap₂ (λ (s : List ℕ) (k : ℕ). s ++ drop k buffer) (sym (take-all count text (omega (arith, p .long)))) place ∙ sym (p .is) in (
+      rw (le-leb (length text) (length buffer) fits) (ap Written (p .long)),
+      rw (le-leb (length text) (length buffer) fits) front,
+    )
+
+-- What a boot answer says of question 1 and of the reading.
+unfoldable pub Says : List ℕ → Bool → Outcome → BootAnswer → Type 0
+Says chip allowed o (Boots sync end writes jumped) = (allowed ≡ true) × (o ≡ Loaded sync end writes jumped)
+Says chip allowed o (IsStuck place) = (allowed ≡ true) × (reportOf chip o ≡ stuckLine place)
+Says chip allowed o (BootRefused number place) = (allowed ≡ false) × (BootRefused number place ≡ BootRefused 1 0)
+
+-- It says so of any outcome,
+says : (chip : List ℕ) (allowed : Bool) (o : Outcome) → Says chip allowed o (ask allowed (BootRefused 1 0) (bootCase o))
+unfolding Says ask bootCase reportOf
+says chip false o = (refl, refl)
+says chip true (Loaded sync end writes jumped) = (refl, refl)
+says chip true (Iprog place) = (refl, refl)
+says chip true (Stuck place) = (refl, refl)
+
+-- and so of the chip that was read.
+boot-says : (chip : List ℕ) (answer : BootAnswer) → answer ≡ bootAnswer chip → Says chip (lengthAllowed (length chip)) (readChip chip) answer
+unfolding bootAnswer
+boot-says chip answer e =
+    subst (λ (a : BootAnswer). Says chip (lengthAllowed (length chip)) (readChip chip) a) (sym e) (says chip (lengthAllowed (length chip)) (readChip chip))
+
+module _ (chip buffer : List ℕ) where
+  -- Past question 1, the call answers with the report.
+  passed : lengthAllowed (length chip) ≡ true → (chipAnswer chip (length buffer) ≡ written (chipReport chip) (length buffer)) × (chipOutput chip buffer ≡ filledBy (chipReport chip) buffer)
+  unfolding chipAnswer chipOutput ask
+  passed e = (rw e refl, rw e refl)
+
+  -- A chip that is stuck: the line that says where.
+  pub stuck-answer : (place : ℕ) → IsStuck place ≡ bootAnswer chip →
+      (chipAnswer chip (length buffer) ≡ written (stuckLine place) (length buffer)) × (chipOutput chip buffer ≡ filledBy (stuckLine place) buffer)
+  unfolding Says
+  stuck-answer place e =
+      let p = boot-says chip (IsStuck place) e in
+      let a = passed (p .0) in
+      (a .0 ∙ ap (λ (text : List ℕ). written text (length buffer)) (p .1), a .1 ∙ ap (λ (text : List ℕ). filledBy text buffer) (p .1))
+
+  -- A refusal is passed on, and the buffer stays as it was.
+  pub refused-answer : (number place : ℕ) → BootRefused number place ≡ bootAnswer chip → (chipAnswer chip (length buffer) ≡ Refused number place) × (chipOutput chip buffer ≡ buffer)
+  unfolding Says chipAnswer chipOutput ask
+  refused-answer number place e =
+      let p = boot-says chip (BootRefused number place) e in
+      let q = p .1 in
+      let n : number ≡ 1 = cc in
+      let m : place ≡ 0 = cc in
+      (rw (p .0, n, m) refl, rw (p .0) refl)
+
+-- A chip that loads passed question 1 and reads to Loaded.
+module _ (chip : List ℕ) (sync end writes : ℕ) (jumped : Bool) (boots : Boots sync end writes jumped ≡ bootAnswer chip) where
+  allowed : lengthAllowed (length chip) ≡ true
+  unfolding Says
+  allowed = boot-says chip (Boots sync end writes jumped) boots .0
+
+  reads : readChip chip ≡ Loaded sync end writes jumped
+  unfolding Says
+  reads = boot-says chip (Boots sync end writes jumped) boots .1
+
+  -- It can be listed:
+  pub loaded-open : (number place : ℕ) → chipListing chip ≡ ListingRefused number place → ⊥
+  unfolding chipListing ask
+  loaded-open number place e = let q = rw allowed at e in let z : _≡_ {A = ℕ} 0 1 = cc in omega arith
+
+  -- as many writes as it counts.
+  count : length (listed chip (Loaded sync end writes jumped)) ≡ writes
+  count = listed-length 1 false chip 0 sync end writes jumped (omega arith) reads
+
+  -- Its report is three parts,
+  parts : chipReport chip ≡ loadedLine jumped ++ writeLines (listed chip (Loaded sync end writes jumped)) ++ endLine end writes
+  unfolding reportOf
+  parts = ap (λ (o : Outcome). reportOf chip o) reads
+
+  -- and so long.
+  long : length (chipReport chip) ≡ 14 + 27 * writes + length (endLine end writes)
+  long =
+      let ws = listed chip (Loaded sync end writes jumped) in
+      ap (λ (text : List ℕ). length text) parts
+      ∙ omega (arith, length-append (loadedLine jumped ++ writeLines ws) (endLine end writes), length-append (loadedLine jumped) (writeLines ws), length-loaded jumped, length-writes ws, count)
+
+  -- Without room for it the call refuses.
+  pub loaded-small : (buffer : List ℕ) → length buffer < 14 + 27 * writes + length (endLine end writes) → (chipAnswer chip (length buffer) ≡ Refused 19 0) × (chipOutput chip buffer ≡ buffer)
+  loaded-small buffer h =
+      let a = passed chip buffer allowed in
+      let n = no-room (chipReport chip) buffer (omega (arith, long)) in
+      (a .0 ∙ n .0, a .1 ∙ n .1)
+
+  module _ (cursor : Cursor) (opened : chipListing chip ≡ Open cursor) where
+    -- The cursor has to give what the report lists,
+    given : rest chip cursor ≡ listed chip (Loaded sync end writes jumped)
+    unfolding chipListing ask
+    given =
+        let q = rw allowed at opened in
+        let same : cursorOf (readChip chip) ≡ cursor = cc in
+        ap (λ (k : Cursor). rest chip k) (sym same) ∙ opened-rest 1 false chip 0 (omega arith) ∙ ap (λ (o : Outcome). listed chip o) reads
+
+    -- as many as were counted.
+    pub loaded-count : length (rest chip cursor) ≡ writes
+    loaded-count = ap (λ (ws : List Write). length ws) given ∙ count
+
+    -- With the parts put one after the other the call is done.
+    pub loaded-put : {buffer after : List ℕ} {count : ℕ} → Put buffer 0 (loadedLine jumped ++ writeLines (rest chip cursor) ++ endLine end writes) count after →
+        (chipAnswer chip (length buffer) ≡ Written count) × (chipOutput chip buffer ≡ after)
+    loaded-put {buffer} {after} {count} p =
+        let a = passed chip buffer allowed in
+        let text : loadedLine jumped ++ writeLines (rest chip cursor) ++ endLine end writes ≡ chipReport chip =
+        ap (λ (ws : List Write). loadedLine jumped ++ writeLines ws ++ endLine end writes) given ∙ sym parts in
+        let n = put-answer (subst (λ (l : List ℕ). Put buffer 0 l count after) text p) in
+        (a .0 ∙ n .0, a .1 ∙ n .1)

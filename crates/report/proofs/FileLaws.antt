@@ -1,0 +1,72 @@
+-- Laws of an image file's report: what each answer on the way to it makes of it.
+use Prim.Native.Nat.{ℕ, _+_, _<_, _≤_}
+use mathlib.Core.Path.{_≡_, refl, sym, ap, _∙_}
+use mathlib.Core.Bool.{Bool, true, false}
+use mathlib.Core.List.{List, append-nil}
+use native.Mathlib.Omega.{arith}
+use borrow.Author.Tests.{le-leb, lt-leb}
+use lib.ListN.{length, drop, drop-of-length-le}
+use Rattle.packets.specs.Packet.{ask}
+use Rattle.packets.specs.Answers.{lengthAllowed}
+use Rattle.mcs.specs.Reading.{Holds, Refused, readText}
+use Rattle.chip.specs.Answers.{builtChip, buildAnswer, outputOf, buildOutput}
+use Rattle.chip.specs.declared.builder.BuildAnswer.{BuildAnswer}
+use Rattle.chip.specs.declared.builder.BuildAnswer.the-variants.{Built, Refused as NotBuilt}
+use Rattle.packets.proofs.Laws.{false-true}
+use Rattle.chip.proofs.Laws.{golden-room, built-length}
+use Rattle.report.specs.Lines.{refusedLine, chipReport}
+use Rattle.report.specs.Files.{reportLayout, onBuilt, builtReport, onReading, fileReport}
+use Rattle.report.specs.Answers.{written, filledBy, chipAnswer, chipOutput}
+
+asked-yes : {A : Type 0} (b : Bool) (refused rest : A) → b ≡ true → ask b refused rest ≡ rest
+unfolding ask
+asked-yes true refused rest e = refl
+asked-yes false refused rest e = absurd (false-true e)
+
+usual-length : lengthAllowed 32768 ≡ true
+unfolding lengthAllowed ask
+usual-length = refl
+
+-- The report of a chip of 32,768 bytes.
+shows-chip : (chip : List ℕ) → length chip ≡ 32768 → (room : ℕ) (out : List ℕ) → (chipAnswer chip room ≡ written (chipReport chip) room) × (chipOutput chip out ≡ filledBy (chipReport chip) out)
+unfolding chipAnswer chipOutput
+shows-chip chip long room out = (asked-yes (lengthAllowed (length chip)) _ _ allowed, asked-yes (lengthAllowed (length chip)) _ _ allowed)
+  where
+    allowed : lengthAllowed (length chip) ≡ true
+    allowed = ap lengthAllowed long ∙ usual-length
+
+-- A buffer of the chip's length that was lent to the builder:
+module _ (golden buffer : List ℕ) (long : length buffer ≡ 32768) where
+  -- it holds the built chip, whose report is the golden image's,
+  pub shows-built : buildAnswer reportLayout golden (length buffer) ≡ Built → (room : ℕ) (out : List ℕ) →
+      (chipAnswer (buildOutput reportLayout golden buffer) room ≡ written (builtReport golden) room) × (chipOutput (buildOutput reportLayout golden buffer) out ≡ filledBy (builtReport golden) out)
+  unfolding onBuilt outputOf
+  shows-built e room out =
+      let n : length (builtChip reportLayout golden) ≡ 32768 = built-length reportLayout golden (golden-room reportLayout golden (length buffer) e) in
+      let none : drop (0 + length (builtChip reportLayout golden)) buffer ≡ _ = drop-of-length-le buffer {i = 0 + length (builtChip reportLayout golden)} (omega arith) in
+      let whole : buildOutput reportLayout golden buffer ≡ builtChip reportLayout golden =
+      ap (λ (a : BuildAnswer). outputOf a reportLayout golden buffer) e ∙ rw none (append-nil (builtChip reportLayout golden)) in
+      let same : builtReport golden ≡ chipReport (builtChip reportLayout golden) = ap (onBuilt golden) (rw long at e) in
+      let shown = shows-chip (builtChip reportLayout golden) n room out in (
+        ap (λ (chip : List ℕ). chipAnswer chip room) whole ∙ shown .0 ∙ ap (λ (l : List ℕ). written l room) (sym same),
+        ap (λ (chip : List ℕ). chipOutput chip out) whole ∙ shown .1 ∙ ap (λ (l : List ℕ). filledBy l out) (sym same),
+      )
+
+  -- or the builder's refusal is the report.
+  pub shows-refused : (number place : ℕ) → buildAnswer reportLayout golden (length buffer) ≡ NotBuilt number place → builtReport golden ≡ refusedLine number place
+  unfolding onBuilt
+  shows-refused number place e = ap (onBuilt golden) (rw long at e)
+
+-- A text that is too long, one that holds an image, and one that holds none.
+module _ (text : List ℕ) where
+  pub reports-long : 65536 < length text → fileReport text ≡ refusedLine 19 0
+  unfolding fileReport ask
+  reports-long h = rw (lt-leb (length text) 65536 h) refl
+
+  pub reports-image : (image : List ℕ) → length text ≤ 65536 → readText text ≡ Holds image → fileReport text ≡ builtReport image
+  unfolding fileReport onReading ask
+  reports-image image h e = rw (le-leb (length text) 65536 h, e) refl
+
+  pub reports-refused : (number place : ℕ) → length text ≤ 65536 → readText text ≡ Refused number place → fileReport text ≡ refusedLine number place
+  unfolding fileReport onReading ask
+  reports-refused number place h e = rw (le-leb (length text) 65536 h, e) refl

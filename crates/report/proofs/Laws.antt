@@ -1,0 +1,19 @@
+-- What programs may count on of a report, beside the contracts: it stands whole in the buffer.
+use Prim.Native.Nat.{ℕ, _≤_}
+use mathlib.Core.Path.{_≡_}
+use mathlib.Core.Bool.{Bool, true, false}
+use mathlib.Core.List.{List, _++_}
+use native.Mathlib.Omega.{arith}
+use lib.Dec.{leb}
+use lib.ListN.{length, drop, length-append}
+use Rattle.packets.specs.Packet.{ask}
+use Rattle.report.specs.Answers.{written, filledBy}
+use Rattle.report.specs.declared.refusal.ReportAnswer.the-variants.{Written, Refused}
+
+pub written-within : (text buffer : List ℕ) (n : ℕ) → written text (length buffer) ≡ Written n → n ≤ length (filledBy text buffer)
+unfolding written filledBy ask
+written-within text buffer n e = go (leb (length text) (length buffer)) e
+  where
+    go : (b : Bool) → ask b (Refused 19 0) (Written (length text)) ≡ Written n → n ≤ length (ask b buffer (text ++ drop (length text) buffer))
+    go true q = let long : length text ≡ n = cc in let m = length-append text (drop (length text) buffer) in omega arith
+    go false q = let z : _≡_ {A = ℕ} 0 1 = cc in absurd (omega arith)

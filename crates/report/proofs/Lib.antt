@@ -1,0 +1,7 @@
+pub mod PutLaws
+pub mod FieldLaws
+pub mod LineLaws
+pub mod ListLaws
+pub mod AnswerLaws
+pub mod FileLaws
+pub mod Laws

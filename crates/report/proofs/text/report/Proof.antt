@@ -1,0 +1,115 @@
+-- `text::report` meets its contract.
+use Prim.Native.Nat.{ℕ}
+use mathlib.Core.Path.{_≡_, sym, ap, _∙_}
+use mathlib.Core.List.{List}
+use native.Mathlib.Omega.{arith}
+use lib.ListN.{length, take}
+use lib.Seq.{length-take-le}
+use Rattle.mcs.proofs.Laws.{read-says, refused-says}
+use Rattle.report.specs.Files.{builtReport}
+use Rattle.report.specs.Answers.{written, filledBy}
+use Rattle.report.proofs.FileLaws.{reports-long, reports-image, reports-refused}
+use borrow.Author.Needs.{needs}
+use Rattle.report.proofs.text.report.Statement.{statement}
+use Rattle.report.proofs.text.report.Tie as tie
+
+report-requires : tie.Need-report-requires
+report-requires c κs = search needs
+
+same-length : tie.Need-same-length
+same-length c = search needs
+
+returns : tie.Need-returns
+returns c =
+    let text = c .before .before .before .before .before .before .before .args .text .now in
+    let out = c .before .before .before .before .before .before .before .args .out .now in
+    let line = sym (reports-long text (omega arith)) in (
+      c .before .before .report .ensures .0 ∙ ap (λ (l : List ℕ). written l (length out)) line,
+      c .before .before .report .ensures .1 ∙ ap (λ (l : List ℕ). filledBy l out) line,
+    )
+
+buffer-requires : tie.Need-buffer-requires
+buffer-requires c κs = search needs
+
+slice-aggregate-read : tie.Need-slice-aggregate-read
+slice-aggregate-read c = search needs
+
+read-requires : tie.Need-read-requires
+read-requires c κs = search needs
+
+enum-known-held : tie.Need-enum-known-held
+enum-known-held c = search needs
+
+array-share-prefix-image : tie.Need-array-share-prefix-image
+array-share-prefix-image c =
+    let text = c .before .before .before .before .before .before .before .before .before .before .args .text .now in
+    let buffer = c .before .before .before .before .before .before .buffer .result in
+    let says = read-says text buffer (c .before .held .given .0 .0) (sym (c .before .before .before .before .read .ensures .0) ∙ c .before .held .given .1) in
+    rw (c .before .before .before .before .read .ensures .1) (says .1 .1 .0)
+
+slice-aggregate-built-report : tie.Need-slice-aggregate-built-report
+slice-aggregate-built-report c =
+    let text = c .before .before .before .before .before .before .before .before .before .before .before .args .text .now in
+    let buffer = c .before .before .before .before .before .before .before .buffer .result in
+    let says = read-says text buffer (c .before .before .held .given .0 .0) (sym (c .before .before .before .before .before .read .ensures .0) ∙ c .before .before .held .given .1) in
+    sym (length-take-le _ _ (rw (c .before .before .before .before .before .read .ensures .1) (says .1 .1 .0)))
+
+built-report-requires : tie.Need-built-report-requires
+built-report-requires c κs = search needs
+
+enum-known-held-2 : tie.Need-enum-known-held-2
+enum-known-held-2 c = search needs
+
+report-requires-2 : tie.Need-report-requires-2
+report-requires-2 c κs = search needs
+
+same-length-2 : tie.Need-same-length-2
+same-length-2 c = search needs
+
+returns-2 : tie.Need-returns-2
+returns-2 c =
+    let text = c .before .before .before .before .before .before .before .before .before .before .before .before .before .before .before .args .text .now in
+    let buffer = c .before .before .before .before .before .before .before .before .before .before .before .buffer .result in
+    let says = read-says text buffer (c .before .before .before .before .before .before .held .given .0 .0) (sym (c .before .before .before .before .before .before .before .before .before .read .ensures .0) ∙ c .before .before .before .before .before .before .held .given .1) in
+    let out = c .before .before .before .before .before .before .before .before .before .before .before .before .before .before .before .args .out .now in
+    let image = ap (λ (l : List ℕ). take (c .before .before .before .before .before .before .held .given .0 .0) l) (c .before .before .before .before .before .before .before .before .before .read .ensures .1) ∙ says .1 .1 .1 in
+    let line = ap (λ (l : List ℕ). builtReport l) image ∙ sym (reports-image text (says .0) (omega arith) (says .1 .0)) in (
+      c .before .before .built-report .ensures .0 ∙ ap (λ (l : List ℕ). written l (length out)) line,
+      c .before .before .built-report .ensures .1 ∙ ap (λ (l : List ℕ). filledBy l out) line,
+    )
+
+same-length-3 : tie.Need-same-length-3
+same-length-3 c = search needs
+
+returns-3 : tie.Need-returns-3
+returns-3 c =
+    let text = c .before .before .before .before .before .before .before .before .before .before .before .before .before .before .args .text .now in
+    let out = c .before .before .before .before .before .before .before .before .before .before .before .before .before .before .args .out .now in
+    let buffer = c .before .before .before .before .before .before .before .before .before .before .buffer .result in
+    let long : 32768 ≡ length buffer = c .before .before .before .before .before .before .before .before .before .before .buffer .ensures in
+    let e = refused-says text buffer _ _ (sym (c .before .before .before .before .before .before .before .before .read .ensures .0) ∙ c .before .before .before .before .before .held2 .given .1) (omega arith) in
+    let line = sym (reports-refused text _ _ (omega arith) e) in (
+      c .before .before .report2 .ensures .0 ∙ ap (λ (l : List ℕ). written l (length out)) line,
+      c .before .before .report2 .ensures .1 ∙ ap (λ (l : List ℕ). filledBy l out) line,
+    )
+
+pub report-spec : {M : Type 1} → statement M
+report-spec =
+    tie.close
+    (tie.spec
+    report-requires
+    same-length
+    returns
+    buffer-requires
+    slice-aggregate-read
+    read-requires
+    enum-known-held
+    array-share-prefix-image
+    slice-aggregate-built-report
+    built-report-requires
+    enum-known-held-2
+    report-requires-2
+    same-length-2
+    returns-2
+    same-length-3
+    returns-3)

@@ -1,0 +1,28 @@
+// The report of a refusal.
+ghost use mathlib.Core.Path.{_≡_};
+ghost use lib.ListN.{length};
+ghost use Rattle.report.specs.Answers.{refusalAnswer, refusalOutput};
+use crate::line::put_refused;
+use crate::line::refused_length;
+
+// How many bytes of a report stand at the front of the buffer, or a refusal that left the buffer as it was.
+pub enum ReportAnswer {
+    Written { length: usize },
+    Refused { number: u32, place: usize },
+}
+
+// The line `REFUSED`, number, place.
+pub fn report(number: u32, place: usize, out: &mut [u8]) -> ReportAnswer
+    ensures answer { λ r. ⌜ r ≡ refusalAnswer number place (length (now (out .entry))) ⌝ }
+    ensures output { λ r. ⌜ now (out .exit) ≡ refusalOutput number place (now (out .entry)) ⌝ }
+{
+    let length = refused_length(number, place);
+    if out.len() < length {
+        return ReportAnswer::Refused {
+            number: 19,
+            place: 0,
+        };
+    }
+    put_refused(out, 0, number, place);
+    ReportAnswer::Written { length }
+}
