@@ -4,4 +4,5 @@ pub mod LayoutLaws
 pub mod SwitchLaws
 pub mod SpiLaws
 pub mod BuiltLaws
+pub mod CutLaws
 pub mod Laws

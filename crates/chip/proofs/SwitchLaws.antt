@@ -1,4 +1,4 @@
--- Laws of the SPI chip's switch word: its bytes, and which words are ON.
+-- Laws of the switch word: its bytes, and which words are ON on an SPI chip.
 use Prim.Native.Nat.{ℕ, _+_, _<_, _≤_}
 use mathlib.Core.Path.{_≡_, sym, _∙_}
 use mathlib.Core.Bool.{true, false}
