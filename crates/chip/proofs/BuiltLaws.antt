@@ -14,7 +14,7 @@ use Rattle.packets.specs.Answers.{lengthAllowed, imageWithin}
 use Rattle.packets.specs.declared.reader.Outcome.the-variants.{Loaded}
 use Rattle.packets.specs.declared.image.ImageAnswer.{ImageAnswer}
 use Rattle.packets.specs.declared.image.ImageAnswer.the-variants.{Accepted, Refused as ImageRefused}
-use Rattle.packets.proofs.Laws.{asked, length-allowed, onAnswer, by-answer, accepted-reads, accepted-length, ends-within, local}
+use Rattle.packets.proofs.Laws.{asked, length-allowed, onAnswer, by-answer, accepted-length, ends-within, local}
 use Rattle.chip.specs.Layout.{segment, switchAt, goldenAt, updateAllowed, areaAllowed}
 use Rattle.chip.specs.Flash.{erased, over}
 use Rattle.chip.specs.Kind.{spi, spiOn, spiHeader, switchWord, goldenArea, Covers, Good, LoadsAlone, Loads}
@@ -28,7 +28,7 @@ use Rattle.chip.proofs.FlashLaws.{getD-any, span-at, span-length, over-
 use Rattle.chip.proofs.BitLaws.{all-ones, bit-most}
 use Rattle.chip.proofs.LayoutLaws.{update-allowed, onLayout, by-layout, allowed-asks}
 use Rattle.chip.proofs.SwitchLaws.{word-at, is-off}
-use Rattle.chip.proofs.SpiLaws.{spi-off-loads}
+use Rattle.chip.proofs.SpiLaws.{accepted-alone, spi-off-loads}
 
 -- what the questions of a chip that was built say
 pub record Asked (layout : Layout) (golden : List ℕ) (room : ℕ) : Type 0 where
@@ -167,12 +167,7 @@ module _ (layout : Layout) (golden : List ℕ) (room : ℕ) (built : buildAnswer
   area = goldenArea (layout .update) chip
 
   itself : LoadsAlone spi golden
-  itself = record {
-    sync = facts .sync;
-    end = facts .end;
-    writes = facts .writes;
-    reading = accepted-reads (layout .update - goldenAt) golden (facts .sync) (facts .end) (facts .writes) (facts .accepted);
-  }
+  itself = accepted-alone (layout .update - goldenAt) golden (facts .sync) (facts .end) (facts .writes) (facts .accepted)
 
   -- The golden area reads as the golden image does: what follows the image is not looked at.
   area-reads : (readAlone area ≡ Loaded (itself .sync) (itself .end) (itself .writes) false) × (listed area (Loaded (itself .sync) (itself .end) (itself .writes) false) ≡ listed golden (Loaded (itself .sync) (itself .end) (itself .writes) false))

@@ -3,6 +3,6 @@ pub use Rattle.chip.proofs.FlashLaws.{getD-any, span-at, span-length, o
 pub use Rattle.chip.proofs.BitLaws.{same-bits, all-ones, bit-most}
 unfoldable pub use Rattle.chip.proofs.LayoutLaws.{onLayout}
 pub use Rattle.chip.proofs.LayoutLaws.{update-allowed, area-allowed, by-layout, allowed-asks}
-pub use Rattle.chip.proofs.SpiLaws.{spi-lawful}
+pub use Rattle.chip.proofs.SpiLaws.{accepted-alone, spi-lawful}
 pub use Rattle.chip.proofs.BuiltLaws.{Asked, questions, golden-room, built-length, built-good, built-off, built-loads}
 pub use Rattle.chip.proofs.CutLaws.{obeyed-may, old-may, erase-good, program-good, area-good}

@@ -11,13 +11,19 @@ use lib.ListN.{length, getD, drop}
 use Rattle.packets.specs.Framing.{syncBytes, starts, wordAt}
 use Rattle.packets.specs.Packet.{ask}
 use Rattle.packets.specs.Reading.{readFrom, readChip, readAlone, listed, contents}
+use Rattle.packets.specs.Answers.{imageWithin}
 use Rattle.packets.specs.declared.reader.Outcome.the-variants.{Loaded}
-use Rattle.packets.proofs.Laws.{false-true, length-allowed, differs-at, word-of, NoneIn, search-past, jumps-to, placed, placed-contents, ends-within}
+use Rattle.packets.specs.declared.image.ImageAnswer.the-variants.{Accepted}
+use Rattle.packets.proofs.Laws.{false-true, length-allowed, differs-at, word-of, NoneIn, search-past, jumps-to, placed, placed-contents, ends-within, accepted-reads}
 use Rattle.chip.specs.Layout.{segment, switchAt, goldenAt}
 use Rattle.chip.specs.Kind.{spi, spiOn, spiHeader, switchWord, goldenArea, Good, LoadsAlone, Loads, Stands, Lawful}
 use Rattle.chip.proofs.FlashLaws.{span-at, span-length}
 use Rattle.chip.proofs.LayoutLaws.{update-allowed}
 use Rattle.chip.proofs.SwitchLaws.{on-bytes, off-no-sync, spi-stays-off}
+
+-- An image that its check accepts loads by itself.
+pub accepted-alone : (longest : ℕ) (image : List ℕ) (sync end writes : ℕ) → imageWithin longest image ≡ Accepted sync end writes → LoadsAlone spi image
+accepted-alone longest image sync end writes e = record { sync = sync; end = end; writes = writes; reading = accepted-reads longest image sync end writes e }
 
 -- bytes of which none begins a sync word
 quietBytes : List ℕ → Bool

@@ -44,7 +44,7 @@ switchWord chip = span chip switchAt 4
 abbrev pub goldenArea : ℕ → List ℕ → List ℕ
 goldenArea update chip = span chip goldenAt (update - goldenAt)
 
--- Every 1 bit of a word's bytes is one of the switch word's.
+-- A word of four bytes that has every 1 bit of another.
 pub record Covers (word ones : List ℕ) : Type 0 where
   pub whole : length word ≡ 4
   pub bytes : (i : ℕ) → i < 4 → getD word i 0 < 256
