@@ -1,10 +1,10 @@
 -- Laws of bytes in their places: a span of a chip, and a chip with other bytes over a span.
 use Prim.Native.Nat.{ℕ, zero, suc, _+_, _-_, _<_, _≤_}
 use mathlib.Core.Path.{_≡_, refl, sym, ap, _∙_}
-use mathlib.Core.List.{List, [], _∷_, _++_, append-assoc}
+use mathlib.Core.List.{List, [], _∷_, _++_, append-assoc, append-nil}
 use native.Mathlib.Omega.{arith}
-use lib.ListN.{length, getD, take, drop, length-append, length-drop, List·getD-append}
-use lib.Seq.{paste, take-length, length-take-le, getD-take, getD-drop, getD-append-add, take-append-le, drop-append-le}
+use lib.ListN.{length, getD, take, drop, length-append, length-drop, drop-of-length-le, List·getD-append}
+use lib.Seq.{paste, take-all, take-length, drop-drop, length-take-le, getD-take, getD-drop, getD-append-add, take-append-le, drop-append-le}
 use Rattle.chip.specs.Flash.{span, over}
 
 pub span-at : (chip : List ℕ) (place count i : ℕ) → i < count → getD (span chip place count) i 0 ≡ getD chip (place + i) 0
@@ -57,6 +57,16 @@ module _ (chip : List ℕ) (place : ℕ) (bytes : List ℕ) (fits : place + leng
       (ap (λ (l : List ℕ). take place chip ++ l) (sym (append-assoc bytes (drop (place + length bytes) chip) more))
       ∙ sym (append-assoc (take place chip) (bytes ++ drop (place + length bytes) chip) more))
 
--- a copy of all bytes puts them over what stood there
+-- Bytes stored one by one stand over what was there;
 pub paste-over : (chip : List ℕ) (place : ℕ) (bytes : List ℕ) → paste chip place bytes (length bytes) ≡ over chip place bytes
 paste-over chip place bytes = rw (take-length bytes) (append-assoc (take place chip) bytes (drop (place + length bytes) chip))
+
+-- so do bytes copied to the front of what lies from the place on.
+pub front-over : (chip : List ℕ) (place : ℕ) (bytes after : List ℕ) → after ≡ take (length bytes) bytes ++ drop (length bytes) (take (length chip - place) (drop place chip)) →
+    take place chip ++ (after ++ drop (length chip - place) (drop place chip)) ≡ over chip place bytes
+front-over chip place bytes after e =
+    let n : length (drop place chip) ≡ length chip - place = length-drop place chip in
+    let all : take (length chip - place) (drop place chip) ≡ drop place chip = take-all (length chip - place) (drop place chip) (omega arith) in
+    let none : drop (length chip - place) (drop place chip) ≡ [] = drop-of-length-le (drop place chip) {i = length chip - place} (omega arith) in
+    let part : after ≡ bytes ++ drop (place + length bytes) chip = e ∙ rw (all, take-length bytes, drop-drop (length bytes) place chip) refl in
+    ap (λ (l : List ℕ). take place chip ++ l) (rw none (append-nil after) ∙ part)

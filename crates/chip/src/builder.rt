@@ -35,11 +35,7 @@ fn copy(out: &mut [u8], at: usize, bytes: &[u8])
     requires { ⌜ at + length (now bytes) ≤ length (now out) ⌝ }
     ensures { λ r. ⌜ now (out .exit) ≡ over (now (out .entry)) at (now (bytes .entry)) ⌝ }
 {
-    let mut i = 0;
-    while i < bytes.len() {
-        out[at + i] = bytes[i];
-        i += 1;
-    }
+    bytes::copy(bytes, &mut out[at..]);
 }
 
 // Segment 1's words, high byte first: write U to WBSTAR, IPROG to CMD, no-operation.

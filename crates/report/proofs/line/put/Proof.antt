@@ -1,67 +1,32 @@
--- `line::put` meets its contract. The loop's invariant: the buffer with the first i bytes of the text put in.
-use lib.Seq.{paste, paste-zero, paste-suc, length-paste}
-use lib.ListN.{length}
-use native.Mathlib.Omega.{arith}
-use native.Mathlib.Numerals.{add-one}
-use mathlib.Core.List.{List}
-use mathlib.Core.Path.{_≡_, ap, _∙_}
-use Prim.Native.Nat.{ℕ, _-_, _≤_}
+-- `line::put` meets its contract.
+use mathlib.Core.Path.{sym, _∙_}
+use Rattle.chip.proofs.Laws.{paste-over, front-over}
+use borrow.Author.Needs.{needs}
 use Rattle.report.proofs.line.put.Statement.{statement}
 use Rattle.report.proofs.line.put.Tie as tie
 
-abbrev Inv-loop : tie.InvT-loop
-Inv-loop out₀ at text i₀ out i = (i ≤ length text) × (out ≡ paste out₀ at text i)
+sub-copy : tie.Need-sub-copy
+sub-copy c = search needs
 
-abbrev μ-loop : tie.MeasureT-loop
-μ-loop out₀ at text i₀ out i = length text - i
+part-copy-start : tie.Need-part-copy-start
+part-copy-start c = search needs
 
-loop-holds : tie.Need-loop-holds Inv-loop μ-loop
-loop-holds c = (omega arith, paste-zero (c .args .out .now) (c .args .at) (c .args .text .now))
+part-copy-end : tie.Need-part-copy-end
+part-copy-end c = search needs
 
-shared-slice-read-out : tie.Need-shared-slice-read-out Inv-loop μ-loop
-shared-slice-read-out c = omega arith
+copy-requires : tie.Need-copy-requires
+copy-requires c κs = search needs
 
-add-out : tie.Need-add-out Inv-loop μ-loop
-add-out c = omega arith
+same-length : tie.Need-same-length
+same-length c = search needs
 
-slice-write-out : tie.Need-slice-write-out Inv-loop μ-loop
-slice-write-out c =
-    let l : length (c .before .before .loop .out) ≡ length (c .before .before .before .args .out .now) =
-    ap (λ (l : List ℕ). length l) (c .before .before .loop .inv .1) ∙ length-paste (c .before .before .before .args .out .now) (c .before .before .before .args .at) (c .before .before .before .args .text .now) (c .before .before .loop .i) (omega arith) (omega arith) in
-    omega arith
-
-add-i : tie.Need-add-i Inv-loop μ-loop
-add-i c = omega arith
-
-loop-less : tie.Need-loop-less Inv-loop μ-loop
-loop-less c = omega arith
-
-loop-again : tie.Need-loop-again Inv-loop μ-loop
-loop-again c = (omega arith, rw (c .before .before .loop .inv .1, add-one) (paste-suc (c .before .before .before .args .out .now) (c .before .before .before .args .at) (c .before .before .before .args .text .now) (c .before .before .loop .i) 0 (omega arith) (omega arith)))
-
-same-length : tie.Need-same-length Inv-loop μ-loop
-same-length c =
-    let l : length (c .before .loop .out) ≡ length (c .before .before .args .out .now) =
-    ap (λ (l : List ℕ). length l) (c .before .loop .inv .1) ∙ length-paste (c .before .before .args .out .now) (c .before .before .args .at) (c .before .before .args .text .now) (c .before .loop .i) (omega arith) (omega arith) in
-    omega arith
-
-returns : tie.Need-returns Inv-loop μ-loop
+returns : tie.Need-returns
 returns c =
-    let e : c .before .loop .i ≡ length (c .before .before .args .text .now) = omega arith in
-    rw e at (c .before .loop .inv .1)
+    let out = c .before .before .before .before .before .before .args .out .now in
+    let at = c .before .before .before .before .before .before .args .at in
+    let text = c .before .before .before .before .before .before .args .text .now in
+    front-over out at text _ (c .before .before .copy .ensures .1) ∙ sym (paste-over out at text)
 
 pub put-spec : {M : Type 1} → statement M
 put-spec =
-    tie.close
-    (tie.spec
-    Inv-loop
-    μ-loop
-    loop-holds
-    shared-slice-read-out
-    add-out
-    slice-write-out
-    add-i
-    loop-less
-    loop-again
-    same-length
-    returns)
+    tie.close (tie.spec sub-copy part-copy-start part-copy-end copy-requires same-length returns)
