@@ -50,7 +50,7 @@ pub record Covers (word ones : List ℕ) : Type 0 where
   pub bytes : (i : ℕ) → i < 4 → getD word i 0 < 256
   pub has : (i : ℕ) → i < 4 → (n : ℕ) → n < 8 → bit n (getD ones i 0) ≤ bit n (getD word i 0)
 
--- An image is one that a kind's FPGA loads by itself.
+-- An image that a kind's FPGA loads by itself.
 pub record LoadsAlone (kind : Kind) (image : List ℕ) : Type 0 where
   pub sync : ℕ
   pub end : ℕ

@@ -1,7 +1,7 @@
 // The first chip of a printer: a golden image, segment 1's words, and nothing else.
 ghost use mathlib.Core.Path.{_≡_};
 ghost use Prim.Native.Nat.{_+_, _≤_};
-ghost use lib.ListN.{length, take};
+ghost use lib.ListN.{length};
 ghost use Rattle.chip.specs.Flash.{erased, over};
 ghost use Rattle.chip.specs.Kind.{spiHeader};
 ghost use Rattle.chip.specs.Answers.{layoutAnswer, builtChip, goldenAnswer, buildAnswer, outputOf, buildOutput, LoadsGolden};
