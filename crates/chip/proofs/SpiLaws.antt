@@ -14,7 +14,7 @@ use Rattle.packets.specs.Reading.{readFrom, readChip, readAlone, listed, conten
 use Rattle.packets.specs.Answers.{imageWithin}
 use Rattle.packets.specs.declared.reader.Outcome.the-variants.{Loaded}
 use Rattle.packets.specs.declared.image.ImageAnswer.the-variants.{Accepted}
-use Rattle.packets.proofs.Laws.{false-true, length-allowed, differs-at, word-of, NoneIn, search-past, jumps-to, placed, placed-contents, ends-within, accepted-reads}
+use Rattle.packets.proofs.Laws.{alone-stays, false-true, length-allowed, differs-at, word-of, NoneIn, search-past, jumps-to, placed, placed-contents, ends-within, accepted-reads}
 use Rattle.chip.specs.Layout.{segment, switchAt, goldenAt}
 use Rattle.chip.specs.Kind.{spi, spiOn, spiHeader, switchWord, goldenArea, Good, LoadsAlone, Loads, Stands, Lawful}
 use Rattle.chip.proofs.FlashLaws.{span-at, span-length}
@@ -222,6 +222,7 @@ spi-lawful = record {
   byte = λ i h. go i h;
   on-on = refl;
   erased-off = refl;
+  alone-stays = alone-stays;
   stays-off = spi-stays-off;
   off-loads = spi-off-loads;
   on-loads = λ update chip image good. spi-on-loads update chip good image;

@@ -84,6 +84,8 @@ pub record Lawful (kind : Kind) : Type 0 where
   pub byte : (i : ℕ) → i < 4 → getD (kind .on) i 0 < 256
   pub on-on : kind .isOn (kind .on) ≡ true
   pub erased-off : kind .isOn (erased 4) ≡ false
+  -- an image that loads by itself does so without a jump;
+  pub alone-stays : (image : List ℕ) (sync end writes : ℕ) (jumped : Bool) → kind .alone image ≡ Loaded sync end writes jumped → jumped ≡ false
   -- a word that has every 1 bit of ON and is OFF stays OFF when more bits become 1;
   pub stays-off : (word more : List ℕ) → Covers word (kind .on) → Covers more word → kind .isOn word ≡ false → kind .isOn more ≡ false
   -- a good chip that is OFF loads its golden area, without a jump;

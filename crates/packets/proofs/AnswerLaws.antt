@@ -63,6 +63,10 @@ by-answer refused accepted longest image = go (imageLength longest (length image
     go true o = case o
     go false o = refl
 
+-- What reads alone to Loaded has not jumped.
+pub alone-stays : (image : List ℕ) (sync end writes : ℕ) (jumped : Bool) → readAlone image ≡ Loaded sync end writes jumped → jumped ≡ false
+alone-stays image sync end writes jumped e = alone-parts false image 0 sync end writes jumped e .2
+
 -- An accepted image reads alone to Loaded.
 pub accepted-reads : (longest : ℕ) (image : List ℕ) (sync end writes : ℕ) → askImage longest Refused Accepted image ≡ Accepted sync end writes → readAlone image ≡ Loaded sync end writes false
 unfolding ask aloneCase
@@ -71,7 +75,7 @@ accepted-reads longest image sync end writes e = go (imageLength longest (length
     go : (b : Bool) (o : Outcome) → readAlone image ≡ o → ask b (Refused 4 0) (aloneCase Refused Accepted o) ≡ Accepted sync end writes → readAlone image ≡ Loaded sync end writes false
     go false o r q = let z : _≡_ {A = ℕ} 0 1 = cc in absurd (omega arith)
     go true (Loaded a b n after) r q =
-        let f : after ≡ false = alone-parts false image 0 a b n after r .2 in
+        let f : after ≡ false = alone-stays image a b n after r in
         r ∙ cc
     go true (Iprog place) r q = let z : _≡_ {A = ℕ} 0 1 = cc in absurd (omega arith)
     go true (Stuck place) r q = let z : _≡_ {A = ℕ} 0 1 = cc in absurd (omega arith)

@@ -1,0 +1,220 @@
+-- A run's state: what one that fits says, how many orders the phases have, and the next state.
+use Prim.Native.Nat.{ℕ, zero, suc, _+_, _-_, _*_, _/_, _%_, _<_, _≤_}
+use mathlib.Core.Path.{_≡_, refl, sym, ap, _∙_}
+use mathlib.Core.Logic.{_⊎_, inl, inr, ⊎-elim}
+use mathlib.Core.Bool.{Bool, true, false}
+use native.Mathlib.Omega.{arith}
+use borrow.Author.Tests.{ltb-true, ltb-false, leb-true, eqb-true, lt-ltb, le-ltb, eq-eqb}
+use lib.Dec.{eqb, leb, ltb}
+use Rattle.packets.specs.Packet.{ask}
+use Rattle.packets.specs.Answers.{lengthAllowed, imageLength}
+use Rattle.packets.proofs.Laws.{asked, false-true}
+use Rattle.chip.specs.Layout.{page, segment, updateAllowed, areaAllowed, askLayout}
+use Rattle.chip.specs.declared.kind.Layout.{Layout}
+use Rattle.chip.proofs.Laws.{area-allowed}
+use Rattle.updater.specs.Run.{byPhase, pages, count, before, total, position, first, after, ended, running, outcomeAllowed, stands, fits}
+use Rattle.updater.specs.declared.run.State.{State}
+
+-- A fact of phases 0 to 6, one by one.
+pub phases {ℓ} : (P : ℕ → Type ℓ) → P 0 → P 1 → P 2 → P 3 → P 4 → P 5 → P 6 → (phase : ℕ) → phase < 7 → P phase
+phases P a b c d e f g zero h = a
+phases P a b c d e f g (suc zero) h = b
+phases P a b c d e f g (suc (suc zero)) h = c
+phases P a b c d e f g (suc (suc (suc zero))) h = d
+phases P a b c d e f g (suc (suc (suc (suc zero)))) h = e
+phases P a b c d e f g (suc (suc (suc (suc (suc zero))))) h = f
+phases P a b c d e f g (suc (suc (suc (suc (suc (suc zero)))))) h = g
+phases P a b c d e f g (suc (suc (suc (suc (suc (suc (suc phase))))))) h = absurd (omega arith)
+
+-- The numbers of a run: questions 1 to 4.
+pub record Numbers (layout : Layout) (n : ℕ) : Type 0 where
+  pub long : lengthAllowed (layout .length) ≡ true
+  pub starts : updateAllowed (layout .length) (layout .update) ≡ true
+  pub spans : areaAllowed (layout .length) (layout .update) (layout .area) ≡ true
+  pub image : imageLength (layout .area) n ≡ true
+
+pub numbers-image : (layout : Layout) (n : ℕ) → Numbers layout n → (1 ≤ n) × (n ≤ layout .area)
+unfolding imageLength
+numbers-image layout n numbers = let a = asked _ _ _ _ (numbers .image) false-true in (leb-true _ _ (a .0), leb-true _ _ (a .1))
+
+-- What a state that fits says.
+pub record Fits (state : State) (lent : ℕ) : Type 0 where
+  pub numbers : Numbers (state .layout) (state .length)
+  pub stand : stands state ≡ true
+  pub same : state .length ≡ lent
+
+pub fits-says : (state : State) (lent : ℕ) → fits state lent ≡ true → Fits state lent
+unfolding fits askLayout
+fits-says state lent e =
+    let a = asked _ _ _ _ e false-true in
+    let b = asked _ _ _ _ (a .1) false-true in
+    let c = asked _ _ _ _ (b .1) false-true in
+    let d = asked _ _ _ _ (c .1) false-true in
+    let f = asked _ _ _ _ (d .1) false-true in
+    record {
+      numbers = record { long = a .0; starts = b .0; spans = c .0; image = d .0 };
+      stand = f .0;
+      same = eqb-true _ _ (f .1);
+    }
+
+pub says-fits : (state : State) (lent : ℕ) → Fits state lent → fits state lent ≡ true
+unfolding fits askLayout ask
+says-fits state lent f = rw (f .numbers .long, f .numbers .starts, f .numbers .spans, f .numbers .image, f .stand) (eq-eqb _ _ (f .same))
+
+-- Two questions with a yes.
+both : {a b : Bool} → a ≡ true → b ≡ true → ask a false b ≡ true
+unfolding ask
+both p q = rw (p, ask) q
+
+-- Before phase 7: an order of the phase, and outcome 0.
+standing : (state : State) → running state ≡ true → stands state ≡ ask (ltb (state .index) (count (state .layout) (state .length) (state .phase))) false (eqb (state .outcome) 0)
+unfolding stands
+standing state r = rw (r, stands) refl
+
+pub running-says : (state : State) (lent : ℕ) → fits state lent ≡ true → running state ≡ true → (state .phase < 7) × (state .index < count (state .layout) (state .length) (state .phase)) × (state .outcome ≡ 0)
+running-says state lent e r =
+    let a = asked _ _ _ _ (sym (standing state r) ∙ fits-says state lent e .stand) false-true in
+    (ltb-true _ _ r, ltb-true _ _ (a .0), eqb-true _ _ (a .1))
+
+-- Every phase before 7 has an order.
+pub count-some : (layout : Layout) (n : ℕ) → Numbers layout n → (phase : ℕ) → phase < 7 → 1 ≤ count layout n phase
+unfolding count byPhase
+count-some layout n numbers =
+    let a = area-allowed (layout .length) (layout .update) (layout .area) (numbers .spans) in
+    let i = numbers-image layout n numbers in
+    let s : 1 ≤ layout .area / segment = omega arith in
+    let p : 1 ≤ layout .area / page = omega arith in
+    let m : 1 ≤ pages n = omega arith in
+    phases (λ (phase : ℕ). 1 ≤ count layout n phase) (omega arith) (omega arith) s m p (omega arith) (omega arith)
+
+-- The orders' places: pages and segments of the update area, pages of the image.
+pub area-segments : (layout : Layout) (n i : ℕ) → i < count layout n 2 → segment * i + segment ≤ layout .area
+unfolding count byPhase
+area-segments layout n i h = let b : i < layout .area / segment = h in omega arith
+
+pub image-pages : (layout : Layout) (n i : ℕ) → i < count layout n 3 → page * i < n
+unfolding count byPhase
+image-pages layout n i h = let b : i < pages n = h in omega arith
+
+pub area-pages : (layout : Layout) (n i : ℕ) → i < count layout n 4 → page * i + page ≤ layout .area
+unfolding count byPhase
+area-pages layout n i h = let b : i < layout .area / page = h in omega arith
+
+-- The next state: the next index, or the next phase.
+pub after-index : (state : State) → state .index + 1 < count (state .layout) (state .length) (state .phase) →
+    after state ≡ record { layout = state .layout; length = state .length; phase = state .phase; index = state .index + 1; outcome = state .outcome }
+unfolding after
+after-index state h = rw (lt-ltb (state .index + 1) (count (state .layout) (state .length) (state .phase)) h, after) refl
+
+pub after-phase : (state : State) → count (state .layout) (state .length) (state .phase) ≤ state .index + 1 →
+    after state ≡ record { layout = state .layout; length = state .length; phase = state .phase + 1; index = 0; outcome = state .outcome }
+unfolding after
+after-phase state h = rw (le-ltb (state .index + 1) (count (state .layout) (state .length) (state .phase)) h, after) refl
+
+-- Which of the two.
+pub last-or-not : (state : State) → (state .index + 1 < count (state .layout) (state .length) (state .phase)) ⊎ (count (state .layout) (state .length) (state .phase) ≤ state .index + 1)
+last-or-not state = go (ltb (state .index + 1) (count (state .layout) (state .length) (state .phase))) refl
+  where
+    go : (b : Bool) → ltb (state .index + 1) (count (state .layout) (state .length) (state .phase)) ≡ b →
+        (state .index + 1 < count (state .layout) (state .length) (state .phase)) ⊎ (count (state .layout) (state .length) (state .phase) ≤ state .index + 1)
+    go true e = inl (ltb-true _ _ e)
+    go false e = inr (ltb-false _ _ e)
+
+-- A state at the beginning of a phase stands there.
+begins-phase : (layout : Layout) (n : ℕ) → Numbers layout n → (phase : ℕ) → phase < 7 →
+    stands (record { layout = layout; length = n; phase = phase + 1; index = 0; outcome = 0 }) ≡ true
+unfolding stands ask outcomeAllowed
+begins-phase layout n numbers phase h = go (ltb (phase + 1) 7) refl
+  where
+    go : (b : Bool) → ltb (phase + 1) 7 ≡ b → stands (record { layout = layout; length = n; phase = phase + 1; index = 0; outcome = 0 }) ≡ true
+    go true e = let c = count-some layout n numbers (phase + 1) (ltb-true _ _ e) in rw (e, lt-ltb 0 (count layout n (phase + 1)) c, stands) refl
+    go false e = let s : phase + 1 ≡ 7 = (let l = ltb-false (phase + 1) 7 e in omega arith) in rw (e, eq-eqb (phase + 1) 7 s, stands) refl
+
+-- It fits, and is one further on.
+pub after-fits : (state : State) (lent : ℕ) → fits state lent ≡ true → running state ≡ true → fits (after state) lent ≡ true
+after-fits state lent e r = ⊎-elim next-index next-phase (last-or-not state)
+  where
+    f : Fits state lent
+    f = fits-says state lent e
+
+    zero-outcome : state .outcome ≡ 0
+    zero-outcome = running-says state lent e r .2
+
+    next-index : state .index + 1 < count (state .layout) (state .length) (state .phase) → fits (after state) lent ≡ true
+    next-index h =
+        let s : State = record { layout = state .layout; length = state .length; phase = state .phase; index = state .index + 1; outcome = state .outcome } in
+        let same : fits s lent ≡ true =
+        says-fits s lent (record { numbers = f .numbers; stand = standing s r ∙ both (lt-ltb _ _ h) (eq-eqb _ _ zero-outcome); same = f .same }) in
+        ap (λ (t : State). fits t lent) (after-index state h) ∙ same
+
+    next-phase : count (state .layout) (state .length) (state .phase) ≤ state .index + 1 → fits (after state) lent ≡ true
+    next-phase h =
+        let s : State = record { layout = state .layout; length = state .length; phase = state .phase + 1; index = 0; outcome = 0 } in
+        let same : fits s lent ≡ true =
+        says-fits s lent (record { numbers = f .numbers; stand = begins-phase (state .layout) (state .length) (f .numbers) (state .phase) (running-says state lent e r .0); same = f .same }) in
+        ap (λ (t : State). fits t lent) (after-phase state h ∙ ap (λ (o : ℕ). record { layout = state .layout; length = state .length; phase = state .phase + 1; index = 0; outcome = o }) zero-outcome) ∙ same
+
+-- How many orders come before a phase that is not the first.
+before-next : (layout : Layout) (n phase : ℕ) → before layout n (phase + 1) ≡ before layout n phase + count layout n phase
+unfolding before
+before-next layout n phase = let e : phase + 1 ≡ suc phase = omega arith in ap (before layout n) e
+
+pub after-position : (state : State) (lent : ℕ) → fits state lent ≡ true → running state ≡ true → position (after state) ≡ position state + 1
+after-position state lent e r = ⊎-elim next-index next-phase (last-or-not state)
+  where
+    next-index : state .index + 1 < count (state .layout) (state .length) (state .phase) → position (after state) ≡ position state + 1
+    next-index h = ap position (after-index state h) ∙ omega arith
+
+    next-phase : count (state .layout) (state .length) (state .phase) ≤ state .index + 1 → position (after state) ≡ position state + 1
+    next-phase h =
+        let i = running-says state lent e r .1 in
+        let c : count (state .layout) (state .length) (state .phase) ≡ state .index + 1 = omega arith in
+        let b = before-next (state .layout) (state .length) (state .phase) in
+        ap position (after-phase state h) ∙ omega arith
+
+-- In all A/4,096 + A/256 + n/256 rounded up + 19.
+pub total-is : (layout : Layout) (n : ℕ) → total layout n ≡ layout .area / 4096 + layout .area / 256 + (n + 255) / 256 + 19
+unfolding before count byPhase
+total-is layout n = omega arith
+
+-- Orders of a phase come before those of a later one.
+pub before-later : (layout : Layout) (n phase k : ℕ) → before layout n phase + count layout n phase ≤ before layout n (suc phase + k)
+unfolding before
+before-later layout n phase zero =
+    let e : suc phase + 0 ≡ suc phase = omega arith in
+    let b : before layout n (suc phase + 0) ≡ before layout n phase + count layout n phase = ap (before layout n) e in
+    omega arith
+before-later layout n phase (suc k) =
+    let e : suc phase + suc k ≡ suc (suc phase + k) = omega arith in
+    let b : before layout n (suc phase + suc k) ≡ before layout n (suc phase + k) + count layout n (suc phase + k) = ap (before layout n) e in
+    let h = before-later layout n phase k in
+    omega arith
+
+-- The position tells whether the run goes on.
+pub position-running : (state : State) (lent : ℕ) → fits state lent ≡ true → running state ≡ true → position state < total (state .layout) (state .length)
+position-running state lent e r =
+    let s = running-says state lent e r in
+    let k : suc (state .phase) + (6 - state .phase) ≡ 7 = omega arith in
+    let h : before (state .layout) (state .length) (state .phase) + count (state .layout) (state .length) (state .phase) ≤ total (state .layout) (state .length) =
+    rw k at (before-later (state .layout) (state .length) (state .phase) (6 - state .phase)) in
+    omega arith
+
+pub position-ended : (state : State) (lent : ℕ) → fits state lent ≡ true → running state ≡ false → position state ≡ total (state .layout) (state .length)
+unfolding stands
+position-ended state lent e r =
+    let s : ask (eqb (state .phase) 7) false (ask (eqb (state .index) 0) false (outcomeAllowed (state .outcome))) ≡ true = rw (r, stands) at (fits-says state lent e .stand) in
+    let a = asked _ _ _ _ s false-true in
+    let b = asked _ _ _ _ (a .1) false-true in
+    let p : state .phase ≡ 7 = eqb-true (state .phase) 7 (a .0) in
+    let i : state .index ≡ 0 = eqb-true (state .index) 0 (b .0) in
+    let q : before (state .layout) (state .length) (state .phase) ≡ total (state .layout) (state .length) = ap (before (state .layout) (state .length)) p in
+    omega arith
+
+pub first-fits : (layout : Layout) (n : ℕ) → Numbers layout n → fits (first layout n) n ≡ true
+first-fits layout n numbers =
+    says-fits (first layout n) n
+    (record {
+      numbers = numbers;
+      stand = standing (first layout n) refl ∙ both (lt-ltb 0 (count layout n 0) (count-some layout n numbers 0 (omega arith))) refl;
+      same = refl;
+    })

@@ -1,0 +1,101 @@
+-- The public calls on a run, each as one definition. Document 01, "Orders of one run" and "Questions at the door".
+use Prim.Native.Nat.{ℕ}
+use mathlib.Core.Bool.{Bool, true, false, _&&_}
+use mathlib.Core.Option.{Option, some, none}
+use mathlib.Core.List.{List}
+use lib.Dec.{eqb}
+use lib.ListN.{length}
+use Rattle.packets.specs.Packet.{ask}
+use Rattle.packets.specs.Answers.{imageLength, aloneCase}
+use Rattle.chip.specs.Layout.{page, askLayout}
+use Rattle.chip.specs.Flash.{erased}
+use Rattle.chip.specs.Kind.{Kind}
+use Rattle.chip.specs.declared.kind.Layout.{Layout}
+use Rattle.updater.specs.Run.{byPhase, total, first, after, ended, running, fits}
+use Rattle.updater.specs.Orders.{Order, erase, program, look, currentOrder, operationOf, orderBytes, differs}
+use Rattle.updater.specs.declared.run.State.{State}
+use Rattle.updater.specs.declared.run.StartAnswer.{StartAnswer}
+use Rattle.updater.specs.declared.run.StartAnswer.the-variants.{Started, Refused as StartRefused}
+use Rattle.updater.specs.declared.run.TotalAnswer.{TotalAnswer}
+use Rattle.updater.specs.declared.run.TotalAnswer.the-variants.{Total, Refused as TotalRefused}
+use Rattle.updater.specs.declared.run.FinishedAnswer.{FinishedAnswer}
+use Rattle.updater.specs.declared.run.FinishedAnswer.the-variants.{Running, Ended, Refused as FinishedRefused}
+use Rattle.updater.specs.declared.run.Asked.the-variants.{Ordered, Refused as OrderRefused}
+use Rattle.updater.specs.declared.run.OrderAnswer.{OrderAnswer}
+use Rattle.updater.specs.declared.run.Comparison.{Comparison}
+use Rattle.updater.specs.declared.run.Comparison.the-variants.{Same, Differs}
+use Rattle.updater.specs.declared.run.ReplyAnswer.{ReplyAnswer}
+use Rattle.updater.specs.declared.run.ReplyAnswer.the-variants.{Next, Stopped, Refused}
+
+-- Questions 4, for the area A, 5 and 6, and what is asked next. The image is read as the chip's kind reads it.
+unfoldable pub askRun {ℓ} : {A : Type ℓ} → Kind → (ℕ → ℕ → A) → Layout → List ℕ → A → A
+askRun kind refused layout image rest =
+    askLayout refused layout
+    (ask (imageLength (layout .area) (length image)) (refused 4 0)
+    (aloneCase refused (λ sync end writes. rest) (kind .alone image)))
+
+-- `run::start`: questions 1 to 6, then the first state
+unfoldable pub startAnswer : Kind → Layout → List ℕ → StartAnswer
+startAnswer kind layout image = askRun kind StartRefused layout image (Started (first layout (length image)))
+
+-- `run::total`: questions 1 to 4, then the number of orders
+unfoldable pub totalAnswer : Layout → ℕ → TotalAnswer
+totalAnswer layout n = askLayout TotalRefused layout (ask (imageLength (layout .area) n) (TotalRefused 4 0) (Total (total layout n)))
+
+-- `State::finished`: 7 for a state that does not fit (no image is lent), then whether the run has ended
+unfoldable pub finishedCase : Bool → State → FinishedAnswer
+finishedCase true state = Running
+finishedCase false state = Ended (state .outcome)
+
+unfoldable pub finishedAnswer : State → FinishedAnswer
+finishedAnswer state = ask (fits state (state .length)) (FinishedRefused 7 0) (finishedCase (running state) state)
+
+-- `State::order`: 7 for a state that does not fit, 8 for a run that has ended, then the current order
+abbrev pub ordered : Order → OrderAnswer
+ordered order = record { asked = Ordered (operationOf order); bytes = orderBytes order }
+
+abbrev pub orderRefused : ℕ → OrderAnswer
+orderRefused number = record { asked = OrderRefused number 0; bytes = erased page }
+
+unfoldable pub orderAnswer : Kind → State → List ℕ → OrderAnswer
+orderAnswer kind state image =
+    ask (fits state (length image)) (orderRefused 7)
+    (ask (running state) (orderRefused 8) (ordered (currentOrder kind state image)))
+
+-- A reply is "done" for an erase or program, and the bytes read for a look: a number and bytes. "Done" has no bytes.
+abbrev pub done : ℕ
+done = 0
+
+abbrev pub read : ℕ
+read = 1
+
+-- Question 8: is the reply the kind and length asked for?
+abbrev pub asksFor : ℕ → ℕ → ℕ → ℕ → Bool
+asksFor what bytes said lent = eqb said what && eqb lent bytes
+
+-- The number of a stop: 10 in phase 1, 11 in phase 4, 12 in phase 6. No other phase looks.
+unfoldable pub stopOf : ℕ → ℕ
+stopOf phase = byPhase phase 0 10 0 0 11 0 12 0
+
+-- Question 9: do the looked-at bytes agree? The stop is at the first differing address.
+unfoldable pub compared : Option ℕ → State → ReplyAnswer
+compared none state = Next (after state)
+compared (some address) state = Stopped (stopOf (state .phase)) address (ended state (stopOf (state .phase)))
+
+-- the same as the code's enum
+unfoldable pub comparison : Option ℕ → Comparison
+comparison none = Same
+comparison (some address) = Differs address
+
+-- questions 8 and 9 by the order
+unfoldable pub repliedTo : Order → State → ℕ → List ℕ → ReplyAnswer
+repliedTo (erase place count) state said bytes = ask (asksFor done 0 said (length bytes)) (Refused 9 0 state) (Next (after state))
+repliedTo (program place contents) state said bytes = ask (asksFor done 0 said (length bytes)) (Refused 9 0 state) (Next (after state))
+repliedTo (look place must) state said bytes =
+    ask (asksFor read (length must) said (length bytes)) (Refused 9 0 state) (compared (differs place bytes must) state)
+
+-- `State::reply`: 7, 8, 9, then 10 to 12. A refusal hands back the state it was given.
+unfoldable pub replyAnswer : Kind → State → List ℕ → ℕ → List ℕ → ReplyAnswer
+replyAnswer kind state image said bytes =
+    ask (fits state (length image)) (Refused 7 0 state)
+    (ask (running state) (Refused 8 0 state) (repliedTo (currentOrder kind state image) state said bytes))

@@ -1,0 +1,32 @@
+-- What an order does to a chip's bytes. Document 01, "A chip's life".
+use Prim.Native.Nat.{ℕ}
+use mathlib.Core.List.{List, [], _∷_}
+use lib.ListN.{length}
+use Rattle.chip.specs.Flash.{span, over, afterErase, afterProgram}
+use Rattle.updater.specs.Orders.{Order, erase, program, look}
+
+-- the first byte of an order's span
+unfoldable pub placeOf : Order → ℕ
+placeOf (erase place count) = place
+placeOf (program place bytes) = place
+placeOf (look place bytes) = place
+
+-- A chip obeys when an erase sets its span to FF and a program clears exactly the bits that are 0 in its bytes: what then stands in the span. A look changes nothing.
+unfoldable pub obeyedSpan : Order → List ℕ → List ℕ
+obeyedSpan (erase place count) chip = afterErase count
+obeyedSpan (program place bytes) chip = afterProgram chip place bytes
+obeyedSpan (look place bytes) chip = span chip place (length bytes)
+
+-- The chip when these bytes stand in an order's span afterwards; outside it every byte stays. A look changes nothing.
+unfoldable pub leaves : Order → List ℕ → List ℕ → List ℕ
+leaves (erase place count) chip left = over chip place left
+leaves (program place bytes) chip left = over chip place left
+leaves (look place bytes) chip left = chip
+
+-- a chip that has obeyed an order, and one that has obeyed a list of them
+abbrev pub obeyed : Order → List ℕ → List ℕ
+obeyed order chip = leaves order chip (obeyedSpan order chip)
+
+unfoldable pub obeyedAll : List Order → List ℕ → List ℕ
+obeyedAll [] chip = chip
+obeyedAll (order ∷ orders) chip = obeyedAll orders (obeyed order chip)

@@ -1,0 +1,96 @@
+-- The orders of a run. Document 01, "Orders of one run" and question 9.
+use Prim.Native.Nat.{ℕ, zero, suc, _+_, _-_, _*_}
+use mathlib.Core.Bool.{true, false}
+use mathlib.Core.Option.{Option, some, none}
+use mathlib.Core.List.{List, [], _∷_, _++_}
+use lib.Dec.{eqb}
+use lib.ListN.{length, getD}
+use Rattle.chip.specs.Layout.{page, segment, switchAt}
+use Rattle.chip.specs.Flash.{erased, span}
+use Rattle.chip.specs.Kind.{Kind}
+use Rattle.chip.specs.declared.kind.Layout.{Layout}
+use Rattle.updater.specs.Run.{byPhase, count, position}
+use Rattle.updater.specs.declared.run.State.{State}
+use Rattle.updater.specs.declared.run.Operation.{Operation}
+use Rattle.updater.specs.declared.run.Operation.the-variants.{Erase, Program, Look}
+
+-- An order: an erase of so many bytes, a program of bytes, or a look, with the bytes that must stand there.
+pub data Order : Type 0 where
+  erase : (place count : ℕ) → Order
+  program : (place : ℕ) (bytes : List ℕ) → Order
+  look : (place : ℕ) (bytes : List ℕ) → Order
+
+-- bytes, then FF up to so many
+abbrev pub filled : ℕ → List ℕ → List ℕ
+filled count bytes = bytes ++ erased (count - length bytes)
+
+-- page i of an image; the last is what remains, and there is nothing after it
+abbrev pub pageOf : List ℕ → ℕ → List ℕ
+pageOf image i = span image (page * i) page
+
+-- THE TABLE OF ORDERS: order i of a phase.
+--   0  1 erase                         segment 0
+--   1  16 looks of 256                 segment 0, must be FF
+--   2  A/4,096 erases                  update area, upward
+--   3  n/256 rounded up, programs      image from U upward, 256 bytes each, the last what remains
+--   4  A/256 looks of 256              image, then FF to the end
+--   5  1 program of 4                  switch ON
+--   6  1 look of 4                     switch ON
+--   7  none (the last line below is never reached: `count` of phase 7 is 0)
+unfoldable pub orderOf : Kind → Layout → List ℕ → ℕ → ℕ → Order
+orderOf kind layout image phase i =
+    byPhase phase
+    (erase 0 segment)
+    (look (page * i) (erased page))
+    (erase (layout .update + segment * i) segment)
+    (program (layout .update + page * i) (pageOf image i))
+    (look (layout .update + page * i) (filled page (pageOf image i)))
+    (program switchAt (kind .on))
+    (look switchAt (kind .on))
+    (erase 0 0)
+
+-- so many orders of a phase, from index i on
+unfoldable pub inPhase : (ℕ → Order) → ℕ → ℕ → List Order
+inPhase order i zero = []
+inPhase order i (suc more) = order i ∷ inPhase order (i + 1) more
+
+-- the orders of the phases before one
+unfoldable pub ordersBefore : Kind → Layout → List ℕ → ℕ → List Order
+ordersBefore kind layout image zero = []
+ordersBefore kind layout image (suc phase) =
+    ordersBefore kind layout image phase ++ inPhase (orderOf kind layout image phase) 0 (count layout (length image) phase)
+
+-- ALL ORDERS OF A RUN, in order.
+abbrev pub orders : Kind → Layout → List ℕ → List Order
+orders kind layout image = ordersBefore kind layout image 7
+
+-- The current order is the one at the state's position. (A state that fits, before phase 7, has one; no other gets as far.)
+abbrev pub currentOrder : Kind → State → List ℕ → Order
+currentOrder kind state image = getD (orders kind (state .layout) image) (position state) (erase 0 0)
+
+-- An order as the code's enum, and the bytes that it programs.
+unfoldable pub operationOf : Order → Operation
+operationOf (erase place count) = Erase place count
+operationOf (program place bytes) = Program place (length bytes)
+operationOf (look place bytes) = Look place (length bytes)
+
+unfoldable pub programmed : Order → List ℕ
+programmed (erase place count) = []
+programmed (program place bytes) = bytes
+programmed (look place bytes) = []
+
+-- the bytes that a look must find
+unfoldable pub lookedFor : Order → List ℕ
+lookedFor (erase place count) = []
+lookedFor (program place bytes) = []
+lookedFor (look place bytes) = bytes
+
+-- the bytes beside an order: those that it programs, FF after them up to a page
+abbrev pub orderBytes : Order → List ℕ
+orderBytes order = filled page (programmed order)
+
+-- The first address, from a place on, at which bytes are not those that must stand there.
+unfoldable pub differs : ℕ → List ℕ → List ℕ → Option ℕ
+differs place [] must = none
+differs place (byte ∷ bytes) [] = none
+differs place (byte ∷ bytes) (m ∷ must) = elim (eqb byte m) [ true ↦ differs (place + 1) bytes must | false ↦ some place ]

@@ -1,0 +1,538 @@
+// A run: its state, its orders, and the replies that move it on. Run, order, reply and stop are document
+// 01's terms. An order is an operation on the chip that the run asks for (an erase, a program or a
+// look); the host carries it out and replies; a stop is a look that read something else.
+ghost use Prim.Native.Nat.{_≤_, min};
+ghost use mathlib.Core.Path.{_≡_};
+ghost use mathlib.Core.Bool.{true};
+ghost use lib.ListN.{length};
+ghost use Rattle.packets.specs.Packet.{ask};
+ghost use Rattle.chip.specs.Layout.{page};
+ghost use Rattle.chip.specs.Kind.{spi};
+ghost use Rattle.updater.specs.Run.{count, outcomeAllowed, stands, fits, running, after};
+ghost use Rattle.updater.specs.Orders.{currentOrder, operationOf, orderBytes, lookedFor, filled, differs};
+ghost use Rattle.updater.specs.Answers.{startAnswer, totalAnswer, finishedCase, finishedAnswer, orderAnswer, done, asksFor, stopOf, compared, comparison, repliedTo, replyAnswer};
+ghost use Rattle.updater.specs.declared.run.Operation.the-variants.{Look};
+ghost use Rattle.updater.specs.declared.run.ReplyAnswer.the-variants.{Next, Refused};
+use chip::kind::Layout;
+use chip::kind::LayoutAnswer;
+use chip::kind::Spi;
+use packets::image::ImageAnswer;
+use packets::image::check_within;
+
+// Where a run is: its layout, the length of its image, phase, index of the order in the phase (0 in
+// phase 7), and outcome (0; 10 to 12 in phase 7 after a stop).
+pub struct State {
+    pub layout: Layout,
+    pub length: usize,
+    pub phase: u32,
+    pub index: usize,
+    pub outcome: u32,
+}
+
+// The first state of a run, or a refusal.
+pub enum StartAnswer {
+    Started { state: State },
+    Refused { number: u32, place: usize },
+}
+
+// How many orders an uncut run has.
+pub enum TotalAnswer {
+    Total { orders: usize },
+    Refused { number: u32, place: usize },
+}
+
+// Whether a run goes on; ended, with which outcome.
+pub enum FinishedAnswer {
+    Running,
+    Ended { outcome: u32 },
+    Refused { number: u32, place: usize },
+}
+
+// What is to be done with the chip: an erase of `length` bytes from `place` on, a program of as many, or
+// a look at as many.
+pub enum Operation {
+    Erase { place: usize, length: usize },
+    Program { place: usize, length: usize },
+    Look { place: usize, length: usize },
+}
+
+// The current order, or a refusal.
+pub enum Asked {
+    Ordered { operation: Operation },
+    Refused { number: u32, place: usize },
+}
+
+// The current order with the bytes of a program, FF after them; all FF where nothing is programmed.
+pub struct OrderAnswer {
+    pub asked: Asked,
+    pub bytes: [u8; 256],
+}
+
+// The state that a reply hands back: the next one; after a stop, with its number and the first address
+// that differs; after a refusal the one that was given.
+pub enum ReplyAnswer {
+    Next {
+        state: State,
+    },
+    Stopped {
+        number: u32,
+        place: usize,
+        state: State,
+    },
+    Refused {
+        number: u32,
+        place: usize,
+        state: State,
+    },
+}
+
+// What comparing came to: all bytes agree, or the first address at which they do not.
+pub enum Comparison {
+    Same,
+    Differs { address: usize },
+}
+
+// How many orders a phase has.
+fn orders_in(layout: Layout, length: usize, phase: u32) -> usize
+    ensures { λ r. ⌜ r ≡ count layout length phase ⌝ }
+{
+    match phase {
+        0 => 1,
+        1 => Spi::SEGMENT / Spi::PAGE,
+        2 => layout.area / Spi::SEGMENT,
+        3 => length / Spi::PAGE + (length % Spi::PAGE + 255) / Spi::PAGE,
+        4 => layout.area / Spi::PAGE,
+        5 => 1,
+        6 => 1,
+        _ => 0,
+    }
+}
+
+fn outcome_allowed(outcome: u32) -> bool
+    ensures { λ r. ⌜ r ≡ outcomeAllowed outcome ⌝ }
+{
+    if outcome == 0 {
+        return true;
+    }
+    if outcome < 10 {
+        return false;
+    }
+    outcome <= 12
+}
+
+// Whether phase, index and outcome go together.
+fn stands_in_phase(state: State) -> bool
+    ensures { λ r. ⌜ r ≡ stands state ⌝ }
+{
+    if state.phase < 7 {
+        if state.index >= orders_in(state.layout, state.length, state.phase) {
+            return false;
+        }
+        return state.outcome == 0;
+    }
+    if state.phase != 7 {
+        return false;
+    }
+    if state.index != 0 {
+        return false;
+    }
+    outcome_allowed(state.outcome)
+}
+
+// Question 6, for an image of so many bytes.
+fn fits_image(state: State, lent: usize) -> bool
+    ensures { λ r. ⌜ r ≡ fits state lent ⌝ }
+{
+    let layout = state.layout;
+    let allowed = layout.check();
+    match allowed {
+        LayoutAnswer::Allowed => {
+            if state.length < 1 {
+                return false;
+            }
+            if layout.area < state.length {
+                return false;
+            }
+            if !stands_in_phase(state) {
+                return false;
+            }
+            state.length == lent
+        }
+        LayoutAnswer::Refused {
+            number: _,
+            place: _,
+        } => false,
+    }
+}
+
+// Starts a run: questions 1 to 6, then its first state.
+pub fn start(layout: Layout, image: &[u8]) -> StartAnswer
+    ensures { λ r. ⌜ r ≡ startAnswer spi layout (now (image .entry)) ⌝ }
+{
+    let allowed = layout.check();
+    match allowed {
+        LayoutAnswer::Allowed => {
+            let checked = check_within(image, layout.area);
+            match checked {
+                ImageAnswer::Accepted {
+                    sync: _,
+                    end: _,
+                    writes: _,
+                } => StartAnswer::Started {
+                    state: State {
+                        layout,
+                        length: image.len(),
+                        phase: 0,
+                        index: 0,
+                        outcome: 0,
+                    },
+                },
+                ImageAnswer::Refused { number, place } => StartAnswer::Refused { number, place },
+            }
+        }
+        LayoutAnswer::Refused { number, place } => StartAnswer::Refused { number, place },
+    }
+}
+
+// How many orders a run has with an image of so many bytes.
+pub fn total(layout: Layout, length: usize) -> TotalAnswer
+    ensures { λ r. ⌜ r ≡ totalAnswer layout length ⌝ }
+{
+    let allowed = layout.check();
+    match allowed {
+        LayoutAnswer::Allowed => {
+            if length < 1 {
+                return TotalAnswer::Refused {
+                    number: 4,
+                    place: 0,
+                };
+            }
+            if layout.area < length {
+                return TotalAnswer::Refused {
+                    number: 4,
+                    place: 0,
+                };
+            }
+            let erases = layout.area / Spi::SEGMENT;
+            let looks = layout.area / Spi::PAGE;
+            let programs = (length + 255) / Spi::PAGE;
+            TotalAnswer::Total {
+                orders: erases + looks + programs + 19,
+            }
+        }
+        LayoutAnswer::Refused { number, place } => TotalAnswer::Refused { number, place },
+    }
+}
+
+// Whether a run has ended, and how.
+fn ended_how(state: State) -> FinishedAnswer
+    ensures { λ r. ⌜ r ≡ finishedCase (running state) state ⌝ }
+{
+    if state.phase < 7 {
+        return FinishedAnswer::Running;
+    }
+    FinishedAnswer::Ended {
+        outcome: state.outcome,
+    }
+}
+
+// The current order, as far as it can be said without the bytes that it programs.
+pub(crate) fn current_operation(state: State, image: &[u8]) -> Operation
+    requires { ⌜ (fits state (length (now image)) ≡ true) × (running state ≡ true) ⌝ }
+    ensures { λ r. ⌜ r ≡ operationOf (currentOrder spi state (now (image .entry))) ⌝ }
+{
+    let phase = state.phase;
+    let page = state.layout.update + Spi::PAGE * state.index;
+    match phase {
+        0 => Operation::Erase {
+            place: 0,
+            length: Spi::SEGMENT,
+        },
+        1 => Operation::Look {
+            place: Spi::PAGE * state.index,
+            length: Spi::PAGE,
+        },
+        2 => Operation::Erase {
+            place: state.layout.update + Spi::SEGMENT * state.index,
+            length: Spi::SEGMENT,
+        },
+        3 => Operation::Program {
+            place: page,
+            length: at_most(image.len() - Spi::PAGE * state.index, Spi::PAGE),
+        },
+        4 => Operation::Look {
+            place: page,
+            length: Spi::PAGE,
+        },
+        5 => Operation::Program {
+            place: Spi::SWITCH,
+            length: 4,
+        },
+        _ => Operation::Look {
+            place: Spi::SWITCH,
+            length: 4,
+        },
+    }
+}
+
+// The smaller of two numbers.
+fn at_most(number: usize, limit: usize) -> usize
+    ensures { λ r. ⌜ r ≡ min number limit ⌝ }
+{
+    if number < limit {
+        return number;
+    }
+    limit
+}
+
+// Bytes, then FF to the end of a page.
+fn filled_page(bytes: &[u8]) -> [u8; 256]
+    requires { ⌜ length (now bytes) ≤ 256 ⌝ }
+    ensures { λ r. ⌜ r ≡ filled page (now (bytes .entry)) ⌝ }
+{
+    let mut filling = [0xFF; 256];
+    let mut i = 0;
+    while i < bytes.len() {
+        filling[i] = bytes[i];
+        i += 1;
+    }
+    filling
+}
+
+// The bytes that the current order programs, then FF.
+pub(crate) fn current_bytes(state: State, image: &[u8]) -> [u8; 256]
+    requires { ⌜ (fits state (length (now image)) ≡ true) × (running state ≡ true) ⌝ }
+    ensures { λ r. ⌜ r ≡ orderBytes (currentOrder spi state (now (image .entry))) ⌝ }
+{
+    let phase = state.phase;
+    let on = Spi::ON;
+    match phase {
+        3 => {
+            let from = Spi::PAGE * state.index;
+            let to = at_most(from + Spi::PAGE, image.len());
+            filled_page(&image[from..to])
+        }
+        5 => filled_page(&on),
+        _ => filled_page(&image[0..0]),
+    }
+}
+
+// The state after the current order.
+pub(crate) fn after_order(state: State) -> State
+    requires { ⌜ (fits state (state .length) ≡ true) × (running state ≡ true) ⌝ }
+    ensures { λ r. ⌜ r ≡ after state ⌝ }
+{
+    let mut next = state;
+    if state.index + 1 < orders_in(state.layout, state.length, state.phase) {
+        next.index = state.index + 1;
+    } else {
+        next.phase = state.phase + 1;
+        next.index = 0;
+    }
+    next
+}
+
+// Compares bytes from a place on with those that must stand there: `must`, then FF.
+fn compare(place: usize, bytes: &[u8], must: &[u8]) -> Comparison
+    requires { ⌜ (place ≤ 16777216) × (length (now must) ≤ length (now bytes)) × (length (now bytes) ≤ 256) ⌝ }
+    ensures { λ r. ⌜ r ≡ comparison (differs place (now (bytes .entry)) (filled (length (now (bytes .entry))) (now (must .entry)))) ⌝ }
+{
+    let mut i = 0;
+    while i < bytes.len() {
+        let mut standing = 0xFF;
+        if i < must.len() {
+            standing = must[i];
+        }
+        if bytes[i] != standing {
+            return Comparison::Differs { address: place + i };
+        }
+        i += 1;
+    }
+    Comparison::Same
+}
+
+// Compares what a look of the current phase read with what must stand there.
+fn compare_look(state: State, image: &[u8], place: usize, bytes: &[u8]) -> Comparison
+    requires { ⌜ (fits state (length (now image)) ≡ true) × (running state ≡ true) × (operationOf (currentOrder spi state (now image)) ≡ Look place (length (now bytes))) ⌝ }
+    ensures { λ r. ⌜ r ≡ comparison (differs place (now (bytes .entry)) (lookedFor (currentOrder spi state (now (image .entry))))) ⌝ }
+{
+    let phase = state.phase;
+    let on = Spi::ON;
+    match phase {
+        1 => compare(place, bytes, &image[0..0]),
+        4 => {
+            let from = at_most(Spi::PAGE * state.index, image.len());
+            let to = at_most(from + Spi::PAGE, image.len());
+            compare(place, bytes, &image[from..to])
+        }
+        _ => compare(place, bytes, &on),
+    }
+}
+
+// The number of a stop in a phase.
+fn stop_number(phase: u32) -> u32
+    ensures { λ r. ⌜ r ≡ stopOf phase ⌝ }
+{
+    match phase {
+        1 => 10,
+        4 => 11,
+        6 => 12,
+        _ => 0,
+    }
+}
+
+// Question 9, for the bytes that a look read.
+fn reply_look(state: State, image: &[u8], place: usize, bytes: &[u8]) -> ReplyAnswer
+    requires { ⌜ (fits state (length (now image)) ≡ true) × (running state ≡ true) × (operationOf (currentOrder spi state (now image)) ≡ Look place (length (now bytes))) ⌝ }
+    ensures { λ r. ⌜ r ≡ compared (differs place (now (bytes .entry)) (lookedFor (currentOrder spi state (now (image .entry))))) state ⌝ }
+{
+    let comparison = compare_look(state, image, place, bytes);
+    match comparison {
+        Comparison::Same => ReplyAnswer::Next {
+            state: after_order(state),
+        },
+        Comparison::Differs { address } => {
+            let number = stop_number(state.phase);
+            let mut stopped = state;
+            stopped.phase = 7;
+            stopped.index = 0;
+            stopped.outcome = number;
+            ReplyAnswer::Stopped {
+                number,
+                place: address,
+                state: stopped,
+            }
+        }
+    }
+}
+
+// Question 8, for the reply to an erase or program.
+fn reply_done(state: State, said: u32, lent: usize) -> ReplyAnswer
+    requires { ⌜ (fits state (state .length) ≡ true) × (running state ≡ true) ⌝ }
+    ensures { λ r. ⌜ r ≡ ask (asksFor done 0 said lent) (Refused 9 0 state) (Next (after state)) ⌝ }
+{
+    if said != State::DONE {
+        return ReplyAnswer::Refused {
+            number: 9,
+            place: 0,
+            state,
+        };
+    }
+    if lent != 0 {
+        return ReplyAnswer::Refused {
+            number: 9,
+            place: 0,
+            state,
+        };
+    }
+    ReplyAnswer::Next {
+        state: after_order(state),
+    }
+}
+
+// Questions 8 and 9, for a run that goes on.
+fn reply_running(state: State, image: &[u8], said: u32, bytes: &[u8]) -> ReplyAnswer
+    requires { ⌜ (fits state (length (now image)) ≡ true) × (running state ≡ true) ⌝ }
+    ensures { λ r. ⌜ r ≡ repliedTo (currentOrder spi state (now (image .entry))) state said (now (bytes .entry)) ⌝ }
+{
+    let operation = current_operation(state, image);
+    match operation {
+        Operation::Erase {
+            place: _,
+            length: _,
+        } => reply_done(state, said, bytes.len()),
+        Operation::Program {
+            place: _,
+            length: _,
+        } => reply_done(state, said, bytes.len()),
+        Operation::Look { place, length } => {
+            if said != State::READ {
+                return ReplyAnswer::Refused {
+                    number: 9,
+                    place: 0,
+                    state,
+                };
+            }
+            if bytes.len() != length {
+                return ReplyAnswer::Refused {
+                    number: 9,
+                    place: 0,
+                    state,
+                };
+            }
+            reply_look(state, image, place, bytes)
+        }
+    }
+}
+
+impl State {
+    // What a reply says: an erase or program is done, or the bytes that a look read.
+    pub const DONE: u32 = 0;
+
+    pub const READ: u32 = 1;
+
+    // Whether the run has ended.
+    pub fn finished(self) -> FinishedAnswer
+        ensures { λ r. ⌜ r ≡ finishedAnswer self ⌝ }
+    {
+        if !fits_image(self, self.length) {
+            return FinishedAnswer::Refused {
+                number: 7,
+                place: 0,
+            };
+        }
+        ended_how(self)
+    }
+
+    // The order that the state asks for. The image is the run's.
+    pub fn order(self, image: &[u8]) -> OrderAnswer
+        ensures { λ r. ⌜ r ≡ orderAnswer spi self (now (image .entry)) ⌝ }
+    {
+        if !fits_image(self, image.len()) {
+            return OrderAnswer {
+                asked: Asked::Refused {
+                    number: 7,
+                    place: 0,
+                },
+                bytes: [0xFF; 256],
+            };
+        }
+        if self.phase >= 7 {
+            return OrderAnswer {
+                asked: Asked::Refused {
+                    number: 8,
+                    place: 0,
+                },
+                bytes: [0xFF; 256],
+            };
+        }
+        OrderAnswer {
+            asked: Asked::Ordered {
+                operation: current_operation(self, image),
+            },
+            bytes: current_bytes(self, image),
+        }
+    }
+
+    // The state after a reply to its order. The image is the run's: it is lent again, so that what a
+    // look must find is always the image's own bytes.
+    pub fn reply(self, image: &[u8], said: u32, bytes: &[u8]) -> ReplyAnswer
+        ensures { λ r. ⌜ r ≡ replyAnswer spi self (now (image .entry)) said (now (bytes .entry)) ⌝ }
+    {
+        if !fits_image(self, image.len()) {
+            return ReplyAnswer::Refused {
+                number: 7,
+                place: 0,
+                state: self,
+            };
+        }
+        if self.phase >= 7 {
+            return ReplyAnswer::Refused {
+                number: 8,
+                place: 0,
+                state: self,
+            };
+        }
+        reply_running(self, image, said, bytes)
+    }
+}
