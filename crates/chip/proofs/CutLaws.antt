@@ -17,11 +17,11 @@ use Rattle.chip.proofs.BitLaws.{same-bits, all-ones, bit-most}
 use Rattle.chip.proofs.LayoutLaws.{update-allowed}
 use Rattle.chip.proofs.SwitchLaws.{word-at}
 
-erased-length : (count : ℕ) → length (erased count) ≡ count
+pub erased-length : (count : ℕ) → length (erased count) ≡ count
 erased-length count = length-replicate {A = ℕ} count 0xFF
 
 -- bit n of a conjunction
-bit-and : (n a b : ℕ) → bit n (bitAnd a b) ≡ min (bit n a) (bit n b)
+pub bit-and : (n a b : ℕ) → bit n (bitAnd a b) ≡ min (bit n a) (bit n b)
 bit-and n a b =
     let x = a / 2 ^ n in
     let y = b / 2 ^ n in
@@ -29,14 +29,14 @@ bit-and n a b =
     let e : bitAnd x y % 2 ≡ min (x % 2) (y % 2) = omega arith in
     ap (λ (q : ℕ). q % 2) (and-shr a b n) ∙ e
 
-cleared-length : (old bytes : List ℕ) → length old ≡ length bytes → length (cleared old bytes) ≡ length bytes
+pub cleared-length : (old bytes : List ℕ) → length old ≡ length bytes → length (cleared old bytes) ≡ length bytes
 unfolding cleared
 cleared-length [] [] e = refl
 cleared-length [] (b ∷ bytes) e = absurd (omega arith)
 cleared-length (o ∷ old) [] e = absurd (omega arith)
 cleared-length (o ∷ old) (b ∷ bytes) e = ap suc (cleared-length old bytes (omega arith))
 
-cleared-at : (old bytes : List ℕ) (i : ℕ) → length old ≡ length bytes → i < length bytes → getD (cleared old bytes) i 0 ≡ bitAnd (getD old i 0) (getD bytes i 0)
+pub cleared-at : (old bytes : List ℕ) (i : ℕ) → length old ≡ length bytes → i < length bytes → getD (cleared old bytes) i 0 ≡ bitAnd (getD old i 0) (getD bytes i 0)
 unfolding cleared
 cleared-at [] bytes i e h = absurd (omega arith)
 cleared-at (o ∷ old) [] i e h = absurd (omega arith)
@@ -67,6 +67,18 @@ module _ (kind : Kind) (update : ℕ) (chip : List ℕ) (good : Good kind update
   abbrev onSpan : List ℕ
   onSpan = span chip switchAt (length (kind .on))
 
+  -- The golden area lies between segment 1 and the update area.
+  pub golden-stays : (after : List ℕ) → length after ≡ length chip → ((i : ℕ) → segment ≤ i → i < update → getD after i 0 ≡ getD chip i 0) → goldenArea update after ≡ goldenArea update chip
+  golden-stays after e same =
+      let r = room in
+      let a : length (goldenArea update after) ≡ update - goldenAt = span-length after goldenAt (update - goldenAt) (omega arith) in
+      let b : length (goldenArea update chip) ≡ update - goldenAt = span-length chip goldenAt (update - goldenAt) (omega arith) in
+      ext-getD 0 (goldenArea update after) (goldenArea update chip) (a ∙ sym b)
+      (λ i h.
+      span-at after goldenAt (update - goldenAt) i (omega arith)
+      ∙ same (goldenAt + i) (omega arith) (omega arith)
+      ∙ sym (span-at chip goldenAt (update - goldenAt) i (omega arith)))
+
   -- What makes a chip good stands below the update area.
   stays-good : (after : List ℕ) → length after ≡ length chip → ((i : ℕ) → i < switchAt → getD after i 0 ≡ 0xFF) → Covers (switchWord after) (kind .on) →
       ((i : ℕ) → segment ≤ i → i < update → getD after i 0 ≡ getD chip i 0) → Good kind update after
@@ -76,19 +88,8 @@ module _ (kind : Kind) (update : ℕ) (chip : List ℕ) (good : Good kind update
     blank = blank;
     switch = covers;
     header = λ i h. same (segment + i) (omega arith) (let r = room in omega arith) ∙ good .header i h;
-    golden = subst (LoadsAlone kind) (sym area) (good .golden);
+    golden = subst (LoadsAlone kind) (sym (golden-stays after e same)) (good .golden);
   }
-    where
-      area : goldenArea update after ≡ goldenArea update chip
-      area =
-          let r = room in
-          let a : length (goldenArea update after) ≡ update - goldenAt = span-length after goldenAt (update - goldenAt) (omega arith) in
-          let b : length (goldenArea update chip) ≡ update - goldenAt = span-length chip goldenAt (update - goldenAt) (omega arith) in
-          ext-getD 0 (goldenArea update after) (goldenArea update chip) (a ∙ sym b)
-          (λ i h.
-          span-at after goldenAt (update - goldenAt) i (omega arith)
-          ∙ same (goldenAt + i) (omega arith) (omega arith)
-          ∙ sym (span-at chip goldenAt (update - goldenAt) i (omega arith)))
 
   -- An erase of segment 0 only raises bits of the switch word.
   pub erase-good : (new : List ℕ) → MayLeave chip 0 (afterErase segment) new → Good kind update (over chip 0 new) × Covers (switchWord (over chip 0 new)) (switchWord chip)
@@ -177,7 +178,19 @@ module _ (kind : Kind) (update : ℕ) (chip : List ℕ) (good : Good kind update
         has = λ j h n m. rw (word j h) (has j h n m);
       }
 
-  -- Anything may stand in the update area, and after it.
+  -- Anything may stand in the update area, and after it: the switch word stays, and the chip good.
+  pub area-switch : (place : ℕ) (new : List ℕ) → update ≤ place → place + length new ≤ length chip → switchWord (over chip place new) ≡ switchWord chip
+  area-switch place new far fits =
+      let l = long in
+      let n = over-length chip place new fits in
+      let a : length (switchWord (over chip place new)) ≡ 4 = span-length (over chip place new) switchAt 4 (omega arith) in
+      let b : length (switchWord chip) ≡ 4 = span-length chip switchAt 4 (omega arith) in
+      ext-getD 0 (switchWord (over chip place new)) (switchWord chip) (a ∙ sym b)
+      (λ j h.
+      word-at (over chip place new) j (omega arith)
+      ∙ over-before chip place new fits (switchAt + j) 0 (let r = room in omega arith)
+      ∙ sym (word-at chip j (omega arith)))
+
   pub area-good : (place : ℕ) (new : List ℕ) → update ≤ place → place + length new ≤ length chip → Good kind update (over chip place new)
   area-good place new far fits = stays-good (over chip place new) (over-length chip place new fits) blank covers outside
     where
@@ -187,17 +200,5 @@ module _ (kind : Kind) (update : ℕ) (chip : List ℕ) (good : Good kind update
       blank : (i : ℕ) → i < switchAt → getD (over chip place new) i 0 ≡ 0xFF
       blank i h = over-before chip place new fits i 0 (let r = room in omega arith) ∙ good .blank i h
 
-      word : switchWord (over chip place new) ≡ switchWord chip
-      word =
-          let l = long in
-          let n = over-length chip place new fits in
-          let a : length (switchWord (over chip place new)) ≡ 4 = span-length (over chip place new) switchAt 4 (omega arith) in
-          let b : length (switchWord chip) ≡ 4 = span-length chip switchAt 4 (omega arith) in
-          ext-getD 0 (switchWord (over chip place new)) (switchWord chip) (a ∙ sym b)
-          (λ j h.
-          word-at (over chip place new) j (omega arith)
-          ∙ over-before chip place new fits (switchAt + j) 0 (let r = room in omega arith)
-          ∙ sym (word-at chip j (omega arith)))
-
       covers : Covers (switchWord (over chip place new)) (kind .on)
-      covers = subst (λ (w : List ℕ). Covers w (kind .on)) (sym word) (good .switch)
+      covers = subst (λ (w : List ℕ). Covers w (kind .on)) (sym (area-switch place new far fits)) (good .switch)

@@ -5,4 +5,4 @@ unfoldable pub use Rattle.chip.proofs.LayoutLaws.{onLayout}
 pub use Rattle.chip.proofs.LayoutLaws.{update-allowed, area-allowed, by-layout, allowed-asks}
 pub use Rattle.chip.proofs.SpiLaws.{accepted-alone, spi-lawful}
 pub use Rattle.chip.proofs.BuiltLaws.{Asked, questions, golden-room, built-length, built-good, built-off, built-loads}
-pub use Rattle.chip.proofs.CutLaws.{obeyed-may, old-may, erase-good, program-good, area-good}
+pub use Rattle.chip.proofs.CutLaws.{erased-length, bit-and, cleared-length, cleared-at, obeyed-may, old-may, golden-stays, erase-good, program-good, area-switch, area-good}
