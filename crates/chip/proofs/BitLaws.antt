@@ -1,8 +1,9 @@
 -- Laws of a number's bits.
-use Prim.Native.Nat.{ℕ, zero, suc, _+_, _-_, _*_, _/_, _%_, _^_, _<_, _≤_}
+use Prim.Native.Nat.{ℕ, zero, suc, _+_, _-_, _*_, _/_, _%_, _^_, _<_, _≤_, min}
 use mathlib.Core.Path.{_≡_, sym, ap, _∙_}
 use native.Mathlib.Nat.{pow-succ', div-div-eq-div-mul}
 use native.Mathlib.Omega.{arith}
+use lib.Bits.{bitAnd, and-shr, and-step}
 use Rattle.chip.specs.Flash.{bit}
 
 -- bit n of a number's half is bit n + 1 of the number
@@ -37,3 +38,12 @@ all-ones (suc k) (suc n) h =
 -- A bit is at most 1.
 pub bit-most : (n a : ℕ) → bit n a ≤ 1
 bit-most n a = omega arith
+
+-- bit n of a conjunction
+pub bit-and : (n a b : ℕ) → bit n (bitAnd a b) ≡ min (bit n a) (bit n b)
+bit-and n a b =
+    let x = a / 2 ^ n in
+    let y = b / 2 ^ n in
+    let s : bitAnd x y ≡ bitAnd (x / 2) (y / 2) * 2 + min (x % 2) (y % 2) = and-step x y in
+    let e : bitAnd x y % 2 ≡ min (x % 2) (y % 2) = omega arith in
+    ap (λ (q : ℕ). q % 2) (and-shr a b n) ∙ e

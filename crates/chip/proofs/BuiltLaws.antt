@@ -6,7 +6,7 @@ use mathlib.Core.List.{List, _++_}
 use native.Mathlib.Omega.{arith}
 use borrow.Author.Tests.{leb-true, le-leb, lt-leb, ltb-true, ltb-false}
 use lib.Dec.{leb, ltb}
-use lib.ListN.{length, getD, take, drop, length-replicate, getD-replicate, List·getD-eq-default}
+use lib.ListN.{length, getD, take, drop, length-append, getD-replicate, List·getD-eq-default}
 use lib.Seq.{take-at}
 use Rattle.packets.specs.Packet.{ask}
 use Rattle.packets.specs.Reading.{readAlone, listed, contents}
@@ -16,7 +16,7 @@ use Rattle.packets.specs.declared.image.ImageAnswer.{ImageAnswer}
 use Rattle.packets.specs.declared.image.ImageAnswer.the-variants.{Accepted, Refused as ImageRefused}
 use Rattle.packets.proofs.Laws.{asked, length-allowed, onAnswer, by-answer, accepted-length, ends-within, local}
 use Rattle.chip.specs.Layout.{segment, switchAt, goldenAt, updateAllowed, areaAllowed}
-use Rattle.chip.specs.Flash.{erased, over}
+use Rattle.chip.specs.Flash.{erased, over, within}
 use Rattle.chip.specs.Kind.{spi, spiOn, spiHeader, switchWord, goldenArea, Covers, Good, LoadsAlone, Loads}
 use Rattle.chip.specs.Answers.{layoutAnswer, builtChip, goldenAnswer, buildAnswer, outputOf, buildOutput, LoadsGolden}
 use Rattle.chip.specs.declared.kind.Layout.{Layout}
@@ -24,7 +24,7 @@ use Rattle.chip.specs.declared.kind.LayoutAnswer.{LayoutAnswer}
 use Rattle.chip.specs.declared.kind.LayoutAnswer.the-variants.{Allowed, Refused as LayoutRefused}
 use Rattle.chip.specs.declared.builder.BuildAnswer.{BuildAnswer}
 use Rattle.chip.specs.declared.builder.BuildAnswer.the-variants.{Built, Refused}
-use Rattle.chip.proofs.FlashLaws.{getD-any, span-at, span-length, over-length, over-before, over-inside, over-after, over-append}
+use Rattle.chip.proofs.FlashLaws.{getD-any, span-at, span-length, over-length, over-before, over-inside, over-after, over-append, within-over, erased-length}
 use Rattle.chip.proofs.BitLaws.{all-ones, bit-most}
 use Rattle.chip.proofs.LayoutLaws.{update-allowed, onLayout, by-layout, allowed-asks}
 use Rattle.chip.proofs.SwitchLaws.{word-at, is-off}
@@ -101,10 +101,10 @@ module _ (layout : Layout) (golden : List ℕ) (fits : goldenAt + length golden 
   headed = over blank segment (spiHeader (layout .update))
 
   header-fits : segment + length (spiHeader (layout .update)) ≤ length blank
-  header-fits = let a : length blank ≡ layout .length = length-replicate (layout .length) 0xFF in let b = header-length (layout .update) in omega (arith, fits)
+  header-fits = let a : length blank ≡ layout .length = erased-length (layout .length) in let b = header-length (layout .update) in omega (arith, fits)
 
   headed-length : length headed ≡ layout .length
-  headed-length = over-length blank segment (spiHeader (layout .update)) header-fits ∙ length-replicate (layout .length) 0xFF
+  headed-length = over-length blank segment (spiHeader (layout .update)) header-fits ∙ erased-length (layout .length)
 
   golden-fits : goldenAt + length golden ≤ length headed
   golden-fits = rw headed-length fits
@@ -135,11 +135,23 @@ module _ (layout : Layout) (golden : List ℕ) (fits : goldenAt + length golden 
           ∙ sym (List·getD-eq-default (spiHeader (layout .update)) 0xFF {n = i} l)
 
   -- what the builder writes, in a buffer that is longer
-  pub built-written : (buffer : List ℕ) → over (over (over buffer 0 blank) segment (spiHeader (layout .update))) goldenAt golden ≡ over buffer 0 (builtChip layout golden)
-  built-written buffer =
-      ap (λ (l : List ℕ). over l goldenAt golden) (over-append blank segment (spiHeader (layout .update)) header-fits (drop (0 + length blank) buffer))
-      ∙ over-append headed goldenAt golden golden-fits (drop (0 + length blank) buffer)
-      ∙ ap (λ (n : ℕ). builtChip layout golden ++ drop (0 + n) buffer) (length-replicate (layout .length) 0xFF ∙ sym built-length)
+  pub built-written : (buffer : List ℕ) → layout .length ≤ length buffer → within (within (within buffer 0 (layout .length) blank) segment (length (spiHeader (layout .update))) (spiHeader (layout .update))) goldenAt (length golden) golden ≡ over buffer 0 (builtChip layout golden)
+  built-written buffer room =
+      ap (λ (l : List ℕ). within l goldenAt (length golden) golden) (ap (λ (l : List ℕ). within l segment (length (spiHeader (layout .update))) (spiHeader (layout .update))) blanked ∙ written)
+      ∙ within-over (headed ++ rest) goldenAt (length golden) golden (let n = length-append headed rest in omega (arith, golden-fits))
+      ∙ over-append headed goldenAt golden golden-fits rest
+      ∙ ap (λ (n : ℕ). builtChip layout golden ++ drop (0 + n) buffer) (erased-length (layout .length) ∙ sym built-length)
+    where
+      rest : List ℕ
+      rest = drop (0 + length blank) buffer
+
+      blanked : within buffer 0 (layout .length) blank ≡ blank ++ rest
+      blanked = within-over buffer 0 (layout .length) blank (omega (arith, room))
+
+      written : within (blank ++ rest) segment (length (spiHeader (layout .update))) (spiHeader (layout .update)) ≡ headed ++ rest
+      written =
+          within-over (blank ++ rest) segment (length (spiHeader (layout .update))) (spiHeader (layout .update)) (let n = length-append blank rest in omega (arith, header-fits))
+          ∙ over-append blank segment (spiHeader (layout .update)) header-fits rest
 
   pub built-golden : (i : ℕ) → i < length golden → getD (builtChip layout golden) (goldenAt + i) 0 ≡ getD golden i 0
   built-golden i h = over-inside headed goldenAt golden golden-fits i 0 h

@@ -1,47 +1,21 @@
 -- A good chip stays good whatever an order may leave: an erase of segment 0, a program of the switch word, anything in the update area. Of any kind.
-use Prim.Native.Nat.{ℕ, zero, suc, _+_, _-_, _/_, _%_, _*_, _^_, _<_, _≤_, min}
+use Prim.Native.Nat.{ℕ, _+_, _-_, _<_, _≤_, min}
 use mathlib.Core.Path.{_≡_, refl, sym, ap, subst, _∙_}
 use mathlib.Core.Logic.{_⊎_, inl, inr, ⊎-elim}
-use mathlib.Core.List.{List, [], _∷_}
+use mathlib.Core.List.{List}
 use native.Mathlib.Omega.{arith}
 use native.Mathlib.Nat.{zero-add}
-use lib.Bits.{bitAnd, and-shr, and-step}
-use lib.ListN.{length, getD, length-replicate, getD-replicate}
+use lib.Bits.{bitAnd}
+use lib.ListN.{length, getD, getD-replicate}
 use lib.Seq.{ext-getD}
 use Rattle.packets.proofs.Laws.{length-allowed}
 use Rattle.chip.specs.Layout.{segment, switchAt, goldenAt}
 use Rattle.chip.specs.Flash.{erased, span, over, cleared, afterErase, afterProgram, bit, MayLeave}
 use Rattle.chip.specs.Kind.{Kind, switchWord, goldenArea, Covers, LoadsAlone, Good}
-use Rattle.chip.proofs.FlashLaws.{span-at, span-length, over-length, over-before, over-inside, over-after}
-use Rattle.chip.proofs.BitLaws.{same-bits, all-ones, bit-most}
+use Rattle.chip.proofs.FlashLaws.{erased-length, cleared-length, cleared-at, span-at, span-length, over-length, over-before, over-inside, over-after}
+use Rattle.chip.proofs.BitLaws.{same-bits, all-ones, bit-most, bit-and}
 use Rattle.chip.proofs.LayoutLaws.{update-allowed}
 use Rattle.chip.proofs.SwitchLaws.{word-at}
-
-pub erased-length : (count : ℕ) → length (erased count) ≡ count
-erased-length count = length-replicate {A = ℕ} count 0xFF
-
--- bit n of a conjunction
-pub bit-and : (n a b : ℕ) → bit n (bitAnd a b) ≡ min (bit n a) (bit n b)
-bit-and n a b =
-    let x = a / 2 ^ n in
-    let y = b / 2 ^ n in
-    let s : bitAnd x y ≡ bitAnd (x / 2) (y / 2) * 2 + min (x % 2) (y % 2) = and-step x y in
-    let e : bitAnd x y % 2 ≡ min (x % 2) (y % 2) = omega arith in
-    ap (λ (q : ℕ). q % 2) (and-shr a b n) ∙ e
-
-pub cleared-length : (old bytes : List ℕ) → length old ≡ length bytes → length (cleared old bytes) ≡ length bytes
-unfolding cleared
-cleared-length [] [] e = refl
-cleared-length [] (b ∷ bytes) e = absurd (omega arith)
-cleared-length (o ∷ old) [] e = absurd (omega arith)
-cleared-length (o ∷ old) (b ∷ bytes) e = ap suc (cleared-length old bytes (omega arith))
-
-pub cleared-at : (old bytes : List ℕ) (i : ℕ) → length old ≡ length bytes → i < length bytes → getD (cleared old bytes) i 0 ≡ bitAnd (getD old i 0) (getD bytes i 0)
-unfolding cleared
-cleared-at [] bytes i e h = absurd (omega arith)
-cleared-at (o ∷ old) [] i e h = absurd (omega arith)
-cleared-at (o ∷ old) (b ∷ bytes) zero e h = refl
-cleared-at (o ∷ old) (b ∷ bytes) (suc i) e h = cleared-at old bytes i (omega arith) (omega arith)
 
 -- What an obeying chip would hold may be left, and so may what stood there.
 pub obeyed-may : (chip : List ℕ) (place : ℕ) (obeyed : List ℕ) → ((i : ℕ) → i < length obeyed → getD obeyed i 0 < 256) → MayLeave chip place obeyed obeyed
@@ -178,7 +152,7 @@ module _ (kind : Kind) (update : ℕ) (chip : List ℕ) (good : Good kind update
         has = λ j h n m. rw (word j h) (has j h n m);
       }
 
-  -- Anything may stand in the update area, and after it: the switch word stays, and the chip good.
+  -- Bytes in the update area, or after it, leave the switch word;
   pub area-switch : (place : ℕ) (new : List ℕ) → update ≤ place → place + length new ≤ length chip → switchWord (over chip place new) ≡ switchWord chip
   area-switch place new far fits =
       let l = long in
@@ -191,6 +165,7 @@ module _ (kind : Kind) (update : ℕ) (chip : List ℕ) (good : Good kind update
       ∙ over-before chip place new fits (switchAt + j) 0 (let r = room in omega arith)
       ∙ sym (word-at chip j (omega arith)))
 
+  -- and so anything may stand there.
   pub area-good : (place : ℕ) (new : List ℕ) → update ≤ place → place + length new ≤ length chip → Good kind update (over chip place new)
   area-good place new far fits = stays-good (over chip place new) (over-length chip place new fits) blank covers outside
     where

@@ -3,9 +3,12 @@ use Prim.Native.Nat.{ℕ, zero, suc, _+_, _-_, _<_, _≤_}
 use mathlib.Core.Path.{_≡_, refl, sym, ap, _∙_}
 use mathlib.Core.List.{List, [], _∷_, _++_, append-assoc, append-nil}
 use native.Mathlib.Omega.{arith}
-use lib.ListN.{length, getD, take, drop, length-append, length-drop, drop-of-length-le, List·getD-append}
+use borrow.Author.Tests.{le-leb}
+use lib.Bits.{bitAnd}
+use lib.ListN.{length, getD, take, drop, length-append, length-replicate, length-drop, drop-of-length-le, List·getD-append}
 use lib.Seq.{paste, take-all, take-length, drop-drop, length-take-le, getD-take, getD-drop, getD-append-add, take-append-le, drop-append-le}
-use Rattle.chip.specs.Flash.{span, over}
+use Rattle.packets.specs.Packet.{ask}
+use Rattle.chip.specs.Flash.{erased, span, over, within, cleared}
 
 pub span-at : (chip : List ℕ) (place count i : ℕ) → i < count → getD (span chip place count) i 0 ≡ getD chip (place + i) 0
 span-at chip place count i h = getD-take count (drop place chip) i 0 h ∙ getD-drop place chip i 0
@@ -70,3 +73,26 @@ front-over chip place bytes after e =
     let none : drop (length chip - place) (drop place chip) ≡ [] = drop-of-length-le (drop place chip) {i = length chip - place} (omega arith) in
     let part : after ≡ bytes ++ drop (place + length bytes) chip = e ∙ rw (all, take-length bytes, drop-drop (length bytes) place chip) refl in
     ap (λ (l : List ℕ). take place chip ++ l) (rw none (append-nil after) ∙ part)
+
+-- Where the span lies within the chip, its bytes are the new ones.
+pub within-over : (chip : List ℕ) (place count : ℕ) (bytes : List ℕ) → place + count ≤ length chip → within chip place count bytes ≡ over chip place bytes
+unfolding within ask
+within-over chip place count bytes h = rw (le-leb (place + count) (length chip) h) refl
+
+-- What an erase and a program leave, byte by byte.
+pub erased-length : (count : ℕ) → length (erased count) ≡ count
+erased-length count = length-replicate {A = ℕ} count 0xFF
+
+pub cleared-length : (old bytes : List ℕ) → length old ≡ length bytes → length (cleared old bytes) ≡ length bytes
+unfolding cleared
+cleared-length [] [] e = refl
+cleared-length [] (b ∷ bytes) e = absurd (omega arith)
+cleared-length (o ∷ old) [] e = absurd (omega arith)
+cleared-length (o ∷ old) (b ∷ bytes) e = ap suc (cleared-length old bytes (omega arith))
+
+pub cleared-at : (old bytes : List ℕ) (i : ℕ) → length old ≡ length bytes → i < length bytes → getD (cleared old bytes) i 0 ≡ bitAnd (getD old i 0) (getD bytes i 0)
+unfolding cleared
+cleared-at [] bytes i e h = absurd (omega arith)
+cleared-at (o ∷ old) [] i e h = absurd (omega arith)
+cleared-at (o ∷ old) (b ∷ bytes) zero e h = refl
+cleared-at (o ∷ old) (b ∷ bytes) (suc i) e h = cleared-at old bytes i (omega arith) (omega arith)

@@ -4,7 +4,9 @@ use mathlib.Core.Path.{_≡_}
 use mathlib.Core.Logic.{_⊎_}
 use mathlib.Core.List.{List, [], _∷_, _++_}
 use lib.Bits.{bitAnd}
+use lib.Dec.{leb}
 use lib.ListN.{length, getD, take, drop, replicate}
+use Rattle.packets.specs.Packet.{ask}
 use Rattle.chip.specs.Layout.{segment}
 
 -- so many bytes FF
@@ -18,6 +20,10 @@ span chip place count = take count (drop place chip)
 -- A chip whose bytes from a place on are these; outside their span every byte stays.
 abbrev pub over : List ℕ → ℕ → List ℕ → List ℕ
 over chip place bytes = take place chip ++ (bytes ++ drop (place + length bytes) chip)
+
+-- The same where a span of so many bytes lies within the chip; else the chip as it was.
+unfoldable pub within : List ℕ → ℕ → ℕ → List ℕ → List ℕ
+within chip place count bytes = ask (leb (place + count) (length chip)) chip (over chip place bytes)
 
 -- A program can only clear bits: an obeying chip clears exactly those that are 0 in its bytes.
 unfoldable pub cleared : List ℕ → List ℕ → List ℕ

@@ -2,10 +2,12 @@
 ghost use mathlib.Core.Path.{_≡_};
 ghost use Prim.Native.Nat.{_+_, _≤_};
 ghost use lib.ListN.{length};
-ghost use Rattle.chip.specs.Flash.{erased, over};
+ghost use Rattle.chip.specs.Flash.{over};
 ghost use Rattle.chip.specs.Kind.{spiHeader};
 ghost use Rattle.chip.specs.Answers.{layoutAnswer, builtChip, goldenAnswer, buildAnswer, outputOf, buildOutput, LoadsGolden};
 ghost use Rattle.chip.specs.declared.kind.LayoutAnswer.the-variants.{Allowed};
+use crate::flash::erase;
+use crate::flash::write;
 use crate::kind::Layout;
 use crate::kind::LayoutAnswer;
 use crate::kind::Spi;
@@ -16,26 +18,6 @@ use packets::image::check_within;
 pub enum BuildAnswer {
     Built,
     Refused { number: u32, place: usize },
-}
-
-// Sets so many bytes to FF, from a place on.
-fn erase(out: &mut [u8], at: usize, count: usize)
-    requires { ⌜ at + count ≤ length (now out) ⌝ }
-    ensures { λ r. ⌜ now (out .exit) ≡ over (now (out .entry)) at (erased count) ⌝ }
-{
-    let mut i = 0;
-    while i < count {
-        out[at + i] = 0xFF;
-        i += 1;
-    }
-}
-
-// Copies bytes to a place.
-fn copy(out: &mut [u8], at: usize, bytes: &[u8])
-    requires { ⌜ at + length (now bytes) ≤ length (now out) ⌝ }
-    ensures { λ r. ⌜ now (out .exit) ≡ over (now (out .entry)) at (now (bytes .entry)) ⌝ }
-{
-    bytes::copy(bytes, &mut out[at..]);
 }
 
 // Segment 1's words, high byte first: write U to WBSTAR, IPROG to CMD, no-operation.
@@ -73,8 +55,8 @@ fn write_chip(layout: Layout, golden: &[u8], out: &mut [u8])
 {
     let words = header(layout.update);
     erase(out, 0, layout.length);
-    copy(out, Spi::SEGMENT, &words);
-    copy(out, Spi::GOLDEN, golden);
+    write(out, Spi::SEGMENT, &words);
+    write(out, Spi::GOLDEN, golden);
 }
 
 // Questions 4 to 6 and 19, for a layout that is allowed.

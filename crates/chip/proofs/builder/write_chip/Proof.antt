@@ -3,8 +3,9 @@ use Prim.Native.Nat.{ℕ}
 use mathlib.Core.Path.{_≡_, ap, ap₂, _∙_}
 use mathlib.Core.List.{List}
 use native.Mathlib.Omega.{arith}
+use lib.ListN.{length}
 use Rattle.chip.specs.Layout.{segment, goldenAt}
-use Rattle.chip.specs.Flash.{erased, over}
+use Rattle.chip.specs.Flash.{erased, within}
 use Rattle.chip.specs.Kind.{spiHeader}
 use Rattle.chip.proofs.BuiltLaws.{built-written}
 use borrow.Author.Needs.{needs}
@@ -17,14 +18,14 @@ header-requires c κs = search needs
 erase-requires : tie.Need-erase-requires
 erase-requires c κs = search needs
 
-slice-aggregate-copy : tie.Need-slice-aggregate-copy
-slice-aggregate-copy c = search needs
+slice-aggregate-write : tie.Need-slice-aggregate-write
+slice-aggregate-write c = search needs
 
-copy-requires : tie.Need-copy-requires
-copy-requires c κs = search needs
+write-requires : tie.Need-write-requires
+write-requires c κs = search needs
 
-copy-requires-2 : tie.Need-copy-requires-2
-copy-requires-2 c κs = search needs
+write-requires-2 : tie.Need-write-requires-2
+write-requires-2 c κs = search needs
 
 same-length : tie.Need-same-length
 same-length c = search needs
@@ -34,13 +35,16 @@ returns c =
     let out = c .before .before .before .before .before .before .before .before .before .before .before .before .before .before .before .before .args .out .now in
     let golden = c .before .before .before .before .before .before .before .before .before .before .before .before .before .before .before .before .args .golden .now in
     let layout = c .before .before .before .before .before .before .before .before .before .before .before .before .before .before .before .before .args .layout in
-    let blank : _≡_ {A = List ℕ} _ (over out 0 (erased (layout .length))) = c .before .before .before .before .before .before .before .before .before .before .before .erase .ensures in
-    let words : _≡_ {A = List ℕ} _ (spiHeader (layout .update)) = c .before .before .before .before .before .before .before .before .before .before .before .before .before .header .ensures in
-    let headed : _≡_ {A = List ℕ} _ (over (c .before .before .before .before .before .before .before .before .before .before .before .erase .last .0) segment (c .before .before .before .before .before .before .before .before .before .before .before .before .before .header .result)) = c .before .before .before .before .before .before .copy .ensures in
-    let whole : _≡_ {A = List ℕ} _ (over (c .before .before .before .before .before .before .copy .last .0) goldenAt golden) = c .before .before .copy2 .ensures in
+    let erasing = c .before .before .before .before .before .before .before .before .before .before .before .erase in
+    let heading = c .before .before .before .before .before .before .before .before .before .before .before .before .before .header in
+    let writing = c .before .before .before .before .before .before .write in
+    let blank : _≡_ {A = List ℕ} _ (within out 0 (layout .length) (erased (layout .length))) = erasing .ensures in
+    let words : _≡_ {A = List ℕ} _ (spiHeader (layout .update)) = heading .ensures in
+    let headed : _≡_ {A = List ℕ} _ (within (erasing .last .0) segment (length (heading .result)) (heading .result)) = writing .ensures in
+    let whole : _≡_ {A = List ℕ} _ (within (writing .last .0) goldenAt (length golden) golden) = c .before .before .write2 .ensures in
     whole
-    ∙ ap (λ (l : List ℕ). over l goldenAt golden) (headed ∙ ap₂ (λ (l w : List ℕ). over l segment w) blank words)
-    ∙ built-written layout golden (omega arith) out
+    ∙ ap (λ (l : List ℕ). within l goldenAt (length golden) golden) (headed ∙ ap₂ (λ (l w : List ℕ). within l segment (length w) w) blank words)
+    ∙ built-written layout golden (omega arith) out (omega arith)
 
 pub write-chip-spec : {M : Type 1} → statement M
 write-chip-spec =
@@ -48,8 +52,8 @@ write-chip-spec =
     (tie.spec
     header-requires
     erase-requires
-    slice-aggregate-copy
-    copy-requires
-    copy-requires-2
+    slice-aggregate-write
+    write-requires
+    write-requires-2
     same-length
     returns)
