@@ -1,3 +1,5 @@
 pub mod RunLaws
 pub mod OrderLaws
 pub mod ReplyLaws
+pub mod CallLaws
+pub mod LifeLaws

@@ -1,0 +1,41 @@
+-- `State::order` meets its contract.
+use mathlib.Core.Path.{refl, sym, _∙_}
+use borrow.Author.Tests.{lt-ltb, le-ltb, not-true, not-false}
+use Rattle.packets.specs.Packet.{ask}
+use Rattle.updater.specs.Answers.{orderAnswer}
+use borrow.Author.Needs.{needs}
+use Rattle.updater.proofs.run.State.order.Statement.{statement}
+use Rattle.updater.proofs.run.State.order.Tie as tie
+
+fits-image-requires : tie.Need-fits-image-requires
+fits-image-requires c κs = search needs
+
+returns : tie.Need-returns
+unfolding orderAnswer ask
+returns c = rw (sym (c .before .fits-image .ensures) ∙ not-true _ (c .if1 .taken)) refl
+
+returns-2 : tie.Need-returns-2
+unfolding orderAnswer ask
+returns-2 c = rw (sym (c .before .before .before .fits-image .ensures) ∙ not-false _ (c .before .before .if1 .left), le-ltb _ 7 (c .if2 .taken)) refl
+
+current-operation-requires : tie.Need-current-operation-requires
+current-operation-requires c κs = (sym (c .before .before .before .fits-image .ensures) ∙ not-false _ (c .before .before .if1 .left), lt-ltb _ 7 (c .if2 .left))
+
+current-bytes-requires : tie.Need-current-bytes-requires
+current-bytes-requires c κs = (sym (c .before .before .before .before .fits-image .ensures) ∙ not-false _ (c .before .before .before .if1 .left), lt-ltb _ 7 (c .before .if2 .left))
+
+returns-3 : tie.Need-returns-3
+unfolding orderAnswer ask
+returns-3 c =
+    rw (sym (c .before .before .before .before .before .fits-image .ensures) ∙ not-false _ (c .before .before .before .before .if1 .left), lt-ltb _ 7 (c .before .before .if2 .left), c .before .current-operation .ensures, c .current-bytes .ensures) refl
+
+pub order-spec : {M : Type 1} → statement M
+order-spec =
+    tie.close
+    (tie.spec
+    fits-image-requires
+    returns
+    returns-2
+    current-operation-requires
+    current-bytes-requires
+    returns-3)
