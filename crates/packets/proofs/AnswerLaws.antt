@@ -1,19 +1,21 @@
 -- Laws of the answers: what an accepted image is, whoever asks.
-use Prim.Native.Nat.{ℕ, _+_, _%_, _≤_}
+use Prim.Native.Nat.{ℕ, zero, suc, _+_, _%_, _≤_}
 use mathlib.Core.Path.{_≡_, refl, sym, ap, _∙_}
 use mathlib.Core.Bool.{Bool, true, false}
-use mathlib.Core.List.{List}
+use mathlib.Core.Option.{some}
+use mathlib.Core.List.{List, [], _∷_}
 use native.Mathlib.Omega.{arith}
-use borrow.Author.Tests.{leb-true, eqb-true}
+use borrow.Author.Tests.{leb-true, eqb-true, le-leb}
 use lib.ListN.{length, take}
 use lib.Seq.{take-length}
 use native.Mathlib.Nat.{zero-add}
 use Rattle.packets.specs.Packet.{ask}
-use Rattle.packets.specs.Reading.{modeOf, traceFrom, finishFrom, writesFrom, readFrom, readChip, readAlone, listed, nthWrite}
+use Rattle.packets.specs.Reading.{modeOf, traceFrom, finishFrom, writesFrom, readFrom, readChip, readAlone, listed, contents, LoadsWhole, nthWrite, contentOf}
 use Rattle.packets.specs.Cursor.{cursorAt, rest, stepOf, nthStep}
-use Rattle.packets.specs.Answers.{lengthAllowed, imageLength, longestImage, aloneCase, askImage, cursorOf, chipWrite, imageAnswer, imageWrite}
+use Rattle.packets.specs.Answers.{lengthAllowed, imageLength, longestImage, bootCase, bootAnswer, aloneCase, askImage, cursorOf, chipWrite, imageAnswer, imageWrite}
 use Rattle.packets.specs.declared.reader.Outcome.{Outcome}
 use Rattle.packets.specs.declared.reader.Outcome.the-variants.{Loaded, Iprog, Stuck}
+use Rattle.packets.specs.declared.chip.BootAnswer.the-variants.{Loaded as Boots}
 use Rattle.packets.specs.declared.walk.Finish.the-variants.{Ended}
 use Rattle.packets.specs.declared.writes.Write.{Write}
 use Rattle.packets.specs.declared.writes.WriteAnswer.the-variants.{Refused as WriteRefused}
@@ -129,3 +131,41 @@ unfolding Proper listed
 listed-length left jumped s from sync end writes after l e =
     let p = rw e at (proper left jumped s from l) in
     sym (counted (traceFrom s (sync + 4)) 0 0 end writes (p .1) ∙ zero-add (length (writesFrom s (sync + 4))))
+
+-- A chip's boot answer is Loaded exactly when its reading is.
+pub boots : (chip : List ℕ) (sync end writes : ℕ) (jumped : Bool) → lengthAllowed (length chip) ≡ true → readChip chip ≡ Loaded sync end writes jumped → bootAnswer chip ≡ Boots sync end writes jumped
+unfolding bootAnswer bootCase ask
+boots chip sync end writes jumped l e = rw (l, e) refl
+
+pub booted : (chip : List ℕ) (sync end writes : ℕ) (jumped : Bool) → bootAnswer chip ≡ Boots sync end writes jumped → readChip chip ≡ Loaded sync end writes jumped
+unfolding bootAnswer bootCase
+booted chip sync end writes jumped e = go (readChip chip) refl (asked _ _ _ _ e (λ q. let z : _≡_ {A = ℕ} 0 1 = cc in omega arith) .1)
+  where
+    go : (o : Outcome) → readChip chip ≡ o → bootCase o ≡ Boots sync end writes jumped → readChip chip ≡ Loaded sync end writes jumped
+    go (Loaded a b n after) r q = r ∙ cc
+    go (Iprog place) r q = let z : _≡_ {A = ℕ} 0 1 = cc in absurd (omega arith)
+    go (Stuck place) r q = let z : _≡_ {A = ℕ} 0 1 = cc in absurd (omega arith)
+
+-- An image that reads alone to Loaded is accepted, if it is not too long.
+pub accepts : (image : List ℕ) (sync end writes : ℕ) (jumped : Bool) → 1 ≤ length image → length image ≤ longestImage → readAlone image ≡ Loaded sync end writes jumped → imageAnswer image ≡ Accepted sync end writes
+unfolding imageAnswer imageLength aloneCase ask
+accepts image sync end writes jumped long short e = rw (le-leb 1 (length image) long, le-leb (length image) longestImage short, e) refl
+
+-- A chip that loads an image whole has the image's writes, one by one, places apart.
+nth-content : (a b : List Write) (i : ℕ) → contents a ≡ contents b → contentOf (nthWrite a i) ≡ contentOf (nthWrite b i)
+unfolding nthWrite contentOf
+nth-content [] [] i e = refl
+nth-content [] (w ∷ b) i e = let z : _≡_ {A = ℕ} 0 1 = cc in absurd (omega arith)
+nth-content (w ∷ a) [] i e = let z : _≡_ {A = ℕ} 0 1 = cc in absurd (omega arith)
+nth-content (v ∷ a) (w ∷ b) zero e = let q : _≡_ {A = ℕ × ℕ} (v .register, v .word) (w .register, w .word) = cc in ap (λ (p : ℕ × ℕ). some p) q
+nth-content (v ∷ a) (w ∷ b) (suc i) e = nth-content a b i cc
+
+pub whole-writes : (chip image : List ℕ) (sync end writes : ℕ) → lengthAllowed (length chip) ≡ true → imageAnswer image ≡ Accepted sync end writes → LoadsWhole chip image →
+    (i : ℕ) → contentOf (chipWrite chip i) ≡ contentOf (imageWrite image i)
+unfolding chipWrite imageAnswer imageWrite onAnswer ask listed
+whole-writes chip image sync end writes l e same i =
+    let alone = accepted-reads longestImage image sync end writes e in
+    let own : nthWrite (writesFrom image (sync + 4)) i ≡ imageWrite image i =
+    rw e at (by-answer WriteRefused (λ sync end writes. nthWrite (writesFrom image (sync + 4)) i) longestImage image) in
+    rw l (nth-content (listed chip (readChip chip)) (writesFrom image (sync + 4)) i (same ∙ ap (λ (o : Outcome). contents (listed image o)) alone))
+    ∙ ap contentOf own

@@ -18,7 +18,7 @@ use Rattle.packets.specs.declared.reader.Outcome.{Outcome}
 use Rattle.packets.specs.declared.reader.Outcome.the-variants.{Loaded, Iprog as NoJump, Stuck}
 use Rattle.packets.specs.declared.writes.Write.{Write}
 use Rattle.packets.specs.declared.writes.WriteAnswer.{WriteAnswer}
-use Rattle.packets.specs.declared.writes.WriteAnswer.the-variants.{Found, Nothing}
+use Rattle.packets.specs.declared.writes.WriteAnswer.the-variants.{Found, Nothing, Refused}
 
 -- What the word just before a header allows: a type 1 write header of count 0 opens its register to a type 2 header, every other word opens none.
 pub data Before : Type 0 where
@@ -150,3 +150,9 @@ unfoldable pub nthWrite : List Write → ℕ → WriteAnswer
 nthWrite [] i = Nothing
 nthWrite (write ∷ more) zero = Found write
 nthWrite (write ∷ more) (suc i) = nthWrite more i
+
+-- a write that was fetched, its place apart
+unfoldable pub contentOf : WriteAnswer → Option (ℕ × ℕ)
+contentOf (Found write) = some (write .register, write .word)
+contentOf Nothing = none
+contentOf (Refused number place) = none

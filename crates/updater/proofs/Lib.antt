@@ -3,3 +3,5 @@ pub mod OrderLaws
 pub mod ReplyLaws
 pub mod CallLaws
 pub mod LifeLaws
+pub mod LifeTheorem
+pub mod BuiltTheorem

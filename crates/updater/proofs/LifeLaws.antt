@@ -219,6 +219,7 @@ module _ (kind : Kind) (lawful : Lawful kind) (update : ℕ) (area : List ℕ) w
             record {
               image = s .image;
               ordered = s .ordered;
+              some-bytes = s .some-bytes;
               alone = s .alone;
               stands = stands-stay (w .chip) (over (w .chip) 0 left) update (s .image) stays (λ i a. outside i (let b = bounds in omega arith)) (s .stands);
             }
@@ -250,7 +251,7 @@ module _ (kind : Kind) (lawful : Lawful kind) (update : ℕ) (area : List ℕ) w
     looks-on phase looks p found stage = record {
       good = inv .good;
       golden = inv .golden;
-      image = λ on. let s = inv .image on in record { image = s .image; ordered = s .ordered; alone = s .alone; stands = s .stands };
+      image = λ on. let s = inv .image on in record { image = s .image; ordered = s .ordered; some-bytes = s .some-bytes; alone = s .alone; stands = s .stands };
       found = found;
       run = still-holds (worldAfter (w .chip) looks (w .ordered) (w .image)) phase p refl stage;
     }
@@ -265,6 +266,7 @@ module _ (kind : Kind) (lawful : Lawful kind) (update : ℕ) (area : List ℕ) w
       image = λ on. record {
         image = run .image;
         ordered = refl;
+        some-bytes = (let n = numbers-image (run .state .layout) (run .state .length) numbers in let s = fits-says (run .state) (length (run .image)) fitted .same in omega arith);
         alone = holds .alone;
         stands = stands-stay (w .chip) (over (w .chip) switchAt left) update (run .image) stays (λ i a. outside i (let b = bounds in omega arith)) stands;
       };
@@ -387,7 +389,7 @@ module _ (kind : Kind) (lawful : Lawful kind) (update : ℕ) (area : List ℕ) w
     goes-on state h = record {
       good = inv .good;
       golden = inv .golden;
-      image = λ on. let s = inv .image on in record { image = s .image; ordered = s .ordered; alone = s .alone; stands = s .stands };
+      image = λ on. let s = inv .image on in record { image = s .image; ordered = s .ordered; some-bytes = s .some-bytes; alone = s .alone; stands = s .stands };
       found = inv .found;
       run = h;
     }
@@ -525,7 +527,7 @@ module _ (kind : Kind) (lawful : Lawful kind) (update : ℕ) (area : List ℕ) w
       (record {
         good = inv .good;
         golden = inv .golden;
-        image = λ on. let s = inv .image on in record { image = s .image; ordered = s .ordered; alone = s .alone; stands = s .stands };
+        image = λ on. let s = inv .image on in record { image = s .image; ordered = s .ordered; some-bytes = s .some-bytes; alone = s .alone; stands = s .stands };
         found = λ f q. absurd (let z : 0 ≡ 16 = eqb-true 0 16 f in omega arith);
         run = record {
           fitted = λ r. first-fits layout (length image) (o .numbers);
@@ -554,7 +556,7 @@ module _ (kind : Kind) (lawful : Lawful kind) (update : ℕ) (area : List ℕ) w
   keeps w inv cuts may = record {
     good = inv .good;
     golden = inv .golden;
-    image = λ on. let s = inv .image on in record { image = s .image; ordered = s .ordered; alone = s .alone; stands = s .stands };
+    image = λ on. let s = inv .image on in record { image = s .image; ordered = s .ordered; some-bytes = s .some-bytes; alone = s .alone; stands = s .stands };
     found = inv .found;
     run = tt;
   }

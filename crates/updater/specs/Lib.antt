@@ -1,7 +1,8 @@
--- What the contracts and the theorems of this crate say, in the order to read it: a run's state, its orders, what an order does to a chip, the calls, the bench, and the life of a chip (demand 3).
+-- What the contracts and the theorems of this crate say, in the order to read it: a run's state, its orders, what an order does to a chip, the calls, the bench, the life of a chip (demand 3), and the same for a built chip in the calls' own definitions.
 pub mod Run
 pub mod Orders
 pub mod Effects
 pub mod Answers
 pub mod Bench
 pub mod Life
+pub mod Built

@@ -1,5 +1,5 @@
 -- DEMAND 3: the life of a chip. Document 01, "A chip's life"; the mission's demand 3 and its premises. One claim about any whole list of events.
-use Prim.Native.Nat.{ℕ, _+_, _<_}
+use Prim.Native.Nat.{ℕ, _+_, _<_, _≤_}
 use mathlib.Core.Path.{_≡_}
 use mathlib.Core.Bool.{Bool, true, false, _&&_, _||_}
 use mathlib.Core.Option.{Option, some, none}
@@ -8,7 +8,7 @@ use lib.Dec.{eqb}
 use lib.ListN.{length, getD}
 use Rattle.chip.specs.Layout.{goldenAt}
 use Rattle.chip.specs.Flash.{span, MayLeave}
-use Rattle.chip.specs.Kind.{Kind, switchWord, goldenArea, LoadsAlone, Loads, Good, Stands, Lawful}
+use Rattle.chip.specs.Kind.{Kind, switchWord, goldenArea, LoadsAlone, Loads, Good, Stands}
 use Rattle.chip.specs.declared.kind.Layout.{Layout}
 use Rattle.updater.specs.Run.{running, first, ended}
 use Rattle.updater.specs.Orders.{Order, erase, program, look, orders, currentOrder, differs}
@@ -182,46 +182,53 @@ obeying image (o ∷ more) chip = carries (obeyedSpan o chip) ∷ replies image 
 abbrev pub uncut : Kind → Layout → List ℕ → List ℕ → List Event
 uncut kind layout image chip = starts layout image ∷ obeying image (orders kind layout image) chip
 
--- It keeps the premises, ends in phase 7 with outcome 0, and makes its own image load, whole, after a jump.
-pub record Updates (kind : Kind) (update : ℕ) (layout : Layout) (image : List ℕ) (w : World) : Type 0 where
+-- What "a chip loads an image that stands at a place, whole, jumped or not" is said in: `Loads kind`, or the answers of the boot reader's calls (`Boots`, specs/Built.antt).
+abbrev pub Loading : Type 1
+Loading = List ℕ → List ℕ → ℕ → Bool → Type 0
+
+-- An uncut run keeps the premises, ends in phase 7 with outcome 0, and makes its own image load, after a jump.
+pub record Updates (kind : Kind) (loads : Loading) (update : ℕ) (layout : Layout) (image : List ℕ) (w : World) : Type 0 where
   pub valid : Valid kind update w (uncut kind layout image (w .chip))
   pub state : life kind w (uncut kind layout image (w .chip)) .run ≡ some (record { state = ended (first layout (length image)) 0; image = image; carried = false })
-  pub loads : Loads kind (life kind w (uncut kind layout image (w .chip)) .chip) image update true
+  pub loaded : loads (life kind w (uncut kind layout image (w .chip)) .chip) image update true
 
--- the ordered image, and that it loads, whole, after a jump
-pub record OrderedLoads (kind : Kind) (update : ℕ) (w : World) : Type 0 where
+-- There is an ordered image, and it loads, after a jump.
+pub record OrderedLoads (loads : Loading) (update : ℕ) (w : World) : Type 0 where
   pub image : List ℕ
   pub ordered : w .image ≡ some image
-  pub loads : Loads kind (w .chip) image update true
+  pub loaded : loads (w .chip) image update true
 
 -- THE CLAIM about a world.
-pub record Claim (kind : Kind) (update : ℕ) (golden : List ℕ) (w : World) : Type 0 where
+pub record Claim (kind : Kind) (loads : Loading) (update : ℕ) (golden : List ℕ) (w : World) : Type 0 where
   -- The reader loads golden, whole and without a jump, exactly when the switch is OFF;
-  pub off : isOn kind w ≡ false → Loads kind (w .chip) golden goldenAt false
-  pub off-only : Loads kind (w .chip) golden goldenAt false → isOn kind w ≡ false
-  -- otherwise there is an ordered image, the one of the last run that ordered the switch on, and that loads, whole, after a jump; no image loads after a jump while the switch is OFF.
-  pub on : isOn kind w ≡ true → OrderedLoads kind update w
-  pub on-only : (image : List ℕ) (place : ℕ) → Loads kind (w .chip) image place true → isOn kind w ≡ true
-  -- While the last run has found the switch segment erased and not ordered the switch on, the switch is OFF: no update loads.
+  pub off : isOn kind w ≡ false → loads (w .chip) golden goldenAt false
+  pub off-only : loads (w .chip) golden goldenAt false → isOn kind w ≡ false
+  -- otherwise there is an ordered image, that of the last run that ordered the switch on, and it loads, whole, after a jump; and no image loads after a jump unless the switch is ON.
+  pub on : isOn kind w ≡ true → OrderedLoads loads update w
+  pub on-only : (image : List ℕ) (place : ℕ) → loads (w .chip) image place true → isOn kind w ≡ true
+  -- No update loads while the last run has found the switch segment erased and has not ordered it on: the switch is OFF.
   pub found-off : found w ≡ true → w .ordered ≡ false → isOn kind w ≡ false
-  -- One more run, uncut on a chip that obeys, makes its own image load: every image that its start accepts.
+  -- One more run, uncut on a chip that obeys, makes its own image load: every image that a start with this chip's length and U accepts.
   pub again : (layout : Layout) (image : List ℕ) (state : State) → startAnswer kind layout image ≡ Started state → layout .length ≡ length (w .chip) → layout .update ≡ update →
-      ((i : ℕ) → i < length image → getD image i 0 < 256) → Updates kind update layout image w
+      ((i : ℕ) → i < length image → getD image i 0 < 256) → Updates kind loads update layout image w
 
 -- the ordered image, an accepted one, and that it stands at U
 pub record Standing (kind : Kind) (update : ℕ) (w : World) : Type 0 where
   pub image : List ℕ
   pub ordered : w .image ≡ some image
+  pub some-bytes : 1 ≤ length image
   pub alone : LoadsAlone kind image
   pub stands : Stands (w .chip) update image
 
--- Where a list may start: no run open, a good chip, and if it is ON an ordered image that stands at U. (A good chip that is OFF, as a built one is, needs no such image.)
+-- Where a list may start: no run open, a good chip, and if it is ON an ordered image that stands at U. (A good chip that is OFF, as a built one is, needs none.)
 pub record Begins (kind : Kind) (update : ℕ) (w : World) : Type 0 where
   pub closed : w .run ≡ none
   pub unseen : w .looks ≡ 0
   pub good : Good kind update (w .chip)
   pub image : isOn kind w ≡ true → Standing kind update w
 
--- DEMAND 3, of any kind that keeps its laws and from any such start. Golden is what the golden area then held.
+-- DEMAND 3, of any kind that keeps its laws, from any such start. Golden is what the golden area then held.
 abbrev pub Demand3 : Kind → Type 0
-Demand3 kind = (update : ℕ) (w : World) → Begins kind update w → (events : List Event) → Valid kind update w events → Claim kind update (goldenArea update (w .chip)) (life kind w events)
+Demand3 kind =
+    (update : ℕ) (w : World) → Begins kind update w → (events : List Event) → Valid kind update w events →
+    Claim kind (Loads kind) update (goldenArea update (w .chip)) (life kind w events)
