@@ -12,17 +12,23 @@ use Rattle.chip.specs.declared.kind.LayoutAnswer.{LayoutAnswer}
 use Rattle.chip.specs.declared.kind.LayoutAnswer.the-variants.{Allowed, Refused as LayoutRefused}
 use Rattle.chip.specs.declared.switch.SwitchAnswer.{SwitchAnswer}
 use Rattle.chip.specs.declared.switch.SwitchAnswer.the-variants.{On, Off, Refused as SwitchRefused}
+use Rattle.chip.specs.Kind.{spi}
+use Rattle.updater.specs.Orders.{Order, orders as runOrders}
+use Rattle.updater.specs.Answers.{totalAnswer}
+use Rattle.updater.specs.declared.run.TotalAnswer.{TotalAnswer}
+use Rattle.updater.specs.declared.run.TotalAnswer.the-variants.{Total, Refused as TotalRefused}
 use Rattle.mcs.specs.Answers.{readAnswer, readOutput}
 use Rattle.mcs.specs.declared.reader.ReadAnswer.{ReadAnswer}
 use Rattle.mcs.specs.declared.reader.ReadAnswer.the-variants.{Read, Refused as TextRefused}
 
--- what the paper says of a case: what loads, which image a text holds, that a layout is allowed, that a switch is ON or OFF, or a refusal's number and place
+-- what the paper says of a case: what loads, which image a text holds, that a layout is allowed, that a switch is ON or OFF, how many orders a run has by the total and how many are listed, or a refusal's number and place
 pub data Says : Type 0 where
   loads : (sync end writes : ℕ) → Says
   reads : (image : List ℕ) → Says
   allows : Says
   isOn : Says
   isOff : Says
+  orders : (total listed : ℕ) → Says
   refuses : (number place : ℕ) → Says
 
 -- what a call answers, in the paper's values
@@ -43,6 +49,11 @@ unfoldable pub switchSays : SwitchAnswer → Says
 switchSays On = isOn
 switchSays Off = isOff
 switchSays (SwitchRefused number place) = refuses number place
+
+-- the total that a run's length gives, beside the length of the list of its orders
+unfoldable pub totalSays : TotalAnswer → List Order → Says
+totalSays (Total total) list = orders total (length list)
+totalSays (TotalRefused number place) list = refuses number place
 
 -- a case: the call, on any bytes that follow where the paper says "and more", and what the paper says of it
 pub record Row : Type 0 where
@@ -78,6 +89,14 @@ layout length update area said = record { asks = λ rest. layoutSays (layoutAnsw
 abbrev pub switch : List ℕ → Says → Row
 switch word said = record { asks = λ rest. switchSays (switchAnswer (erased 4092 ++ (word ++ erased 12288))); room = 0; says = said }
 
+-- an image of n bytes and A, on a chip of 32,768 bytes with its update area at 12,288
+abbrev pub run : ℕ → ℕ → Says → Row
+run n area said = record {
+  asks = λ rest. totalSays (totalAnswer (layoutOf 32768 12288 area) n) (runOrders spi (layoutOf 32768 12288 area) (replicate n 0));
+  room = 0;
+  says = said;
+}
+
 -- `:0C000000AA995566300080010000000D38` and the end line
 abbrev pub twelveText : List ℕ
 twelveText =
@@ -106,6 +125,10 @@ rows =
     ∷ layout 12288 12288 4096 (refuses 1 0)
     -- U 8,192 gives 2
     ∷ layout 16384 8192 4096 (refuses 2 0)
+    -- n 12, A 4,096: 37 orders
+    ∷ run 12 4096 (orders 37 37)
+    -- n 300, A 8,192: 55
+    ∷ run 300 8192 (orders 55 55)
     -- switch AA 99 55 67: OFF
     ∷ switch (0xAA ∷ 0x99 ∷ 0x55 ∷ 0x67 ∷ []) isOff
     -- the line and the end line: the 12-byte image

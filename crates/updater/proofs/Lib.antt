@@ -2,6 +2,10 @@ pub mod RunLaws
 pub mod OrderLaws
 pub mod ReplyLaws
 pub mod CallLaws
+pub mod OrderListTheorem
 pub mod LifeLaws
+pub mod ObeyLaws
+pub mod ProgressLaws
+pub mod UncutLaws
 pub mod LifeTheorem
 pub mod BuiltTheorem

@@ -20,6 +20,7 @@ use Rattle.updater.specs.Run.{byPhase, count, first, after, ended, runni
 use Rattle.updater.specs.Orders.{Order, erase, program, look, filled, pageOf, orderOf, differs}
 use Rattle.updater.specs.Effects.{obeyedSpan, leaves}
 use Rattle.updater.specs.Answers.{startAnswer, stopOf, replyAnswer}
+use Rattle.updater.specs.OrderList.{Replies, Moved}
 use Rattle.updater.specs.Life.{Run, World, found, starts, carries, replies, cuts, Event, afterStart, agrees, lookSeen, orderedImage, carryOut, afterReply, afterCut, orderOfRun, onRun, next, MayStart, MayBeLeft, MayOrder, True, Honest, MayReply, May, Valid, life, isOn, Standing}
 use Rattle.updater.specs.declared.run.State.{State}
 use Rattle.updater.specs.declared.run.StartAnswer.{StartAnswer}
@@ -28,7 +29,7 @@ use Rattle.updater.specs.declared.run.ReplyAnswer.{ReplyAnswer}
 use Rattle.updater.specs.declared.run.ReplyAnswer.the-variants.{Next, Stopped, Refused}
 use Rattle.updater.proofs.RunLaws.{phases, Numbers, numbers-image, fits-says, running-says, area-segments, image-pages, area-pages, after-index, after-phase, last-or-not, after-fits, first-fits}
 use Rattle.updater.proofs.OrderLaws.{current-order, filled-at, page-at, filled-length}
-use Rattle.updater.proofs.ReplyLaws.{none-same, opened, Moved, moved, Halted, halted, Replies}
+use Rattle.updater.proofs.ReplyLaws.{none-same, opened, moved, halted}
 
 -- The switch word is erased.
 abbrev pub Erased : World → Type 0

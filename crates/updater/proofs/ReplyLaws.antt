@@ -19,6 +19,7 @@ use Rattle.chip.specs.declared.kind.Layout.{Layout}
 use Rattle.updater.specs.Run.{first, after, ended, running, fits}
 use Rattle.updater.specs.Orders.{Order, erase, program, look, currentOrder, differs}
 use Rattle.updater.specs.Answers.{askRun, startAnswer, done, read, asksFor, stopOf, compared, repliedTo, replyAnswer}
+use Rattle.updater.specs.OrderList.{Replies, FirstDiffers, Moved, Halted}
 use Rattle.updater.specs.declared.run.State.{State}
 use Rattle.updater.specs.declared.run.StartAnswer.{StartAnswer}
 use Rattle.updater.specs.declared.run.StartAnswer.the-variants.{Started, Refused as StartRefused}
@@ -46,12 +47,6 @@ none-same place (byte ∷ bytes) (m ∷ must) l e = go (eqb byte m) refl e (none
     go false q h rest = let z : _≡_ {A = ℕ} 0 1 = cc in absurd (omega arith)
 
 -- else the address is that of the first byte that differs.
-pub record FirstDiffers (place : ℕ) (bytes must : List ℕ) (address : ℕ) : Type 0 where
-  pub from : place ≤ address
-  pub within : address - place < length bytes
-  pub other : getD bytes (address - place) 0 ≡ getD must (address - place) 0 → ⊥
-  pub before : (i : ℕ) → i < address - place → getD bytes i 0 ≡ getD must i 0
-
 pub some-differs : (place : ℕ) (bytes must : List ℕ) (address : ℕ) → differs place bytes must ≡ some address → FirstDiffers place bytes must address
 unfolding differs
 some-differs place [] must address e = let z : _≡_ {A = ℕ} 0 1 = cc in absurd (omega arith)
@@ -117,31 +112,6 @@ opened kind lawful layout image state e =
 pub starts : (kind : Kind) (layout : Layout) (image : List ℕ) → Numbers layout (length image) → LoadsAlone kind image → startAnswer kind layout image ≡ Started (first layout (length image))
 unfolding startAnswer askRun askLayout aloneCase ask
 starts kind layout image numbers alone = rw (numbers .long, numbers .starts, numbers .spans, numbers .image, alone .reading) refl
-
--- What the reply to an order must be: done, or the bytes that must stand.
-unfoldable pub Replies : Order → ℕ → List ℕ → Type 0
-Replies (erase place count) said bytes = (said ≡ done) × (bytes ≡ [])
-Replies (program place contents) said bytes = (said ≡ done) × (bytes ≡ [])
-Replies (look place must) said bytes = (said ≡ read) × (bytes ≡ must)
-
--- A reply that moves the run on, and what it must have been.
-pub record Moved (kind : Kind) (state : State) (image : List ℕ) (said : ℕ) (bytes : List ℕ) (next : State) : Type 0 where
-  pub fitted : fits state (length image) ≡ true
-  pub ran : running state ≡ true
-  pub replied : Replies (currentOrder kind state image) said bytes
-  pub comes : next ≡ after state
-
--- A reply that stops it: to a look, and only if the bytes are others.
-pub record Halted (kind : Kind) (state : State) (image : List ℕ) (bytes : List ℕ) (number address : ℕ) (next : State) : Type 0 where
-  pub fitted : fits state (length image) ≡ true
-  pub ran : running state ≡ true
-  pub place : ℕ
-  pub must : List ℕ
-  pub looked : currentOrder kind state image ≡ look place must
-  pub long : length bytes ≡ length must
-  pub differ : FirstDiffers place bytes must address
-  pub stop : number ≡ stopOf (state .phase)
-  pub comes : next ≡ ended state (stopOf (state .phase))
 
 -- Question 8 with a yes.
 both-true : (a b : Bool) → (a && b) ≡ true → (a ≡ true) × (b ≡ true)
