@@ -3,6 +3,7 @@ pub mod OrderLaws
 pub mod ReplyLaws
 pub mod CallLaws
 pub mod OrderListTheorem
+pub mod EventLaws
 pub mod LifeLaws
 pub mod ObeyLaws
 pub mod ProgressLaws
