@@ -89,9 +89,9 @@ module _ (kind : Kind) (lawful : Lawful kind) (update : ℕ) (first : World) (be
       let r = uncut-run kind lawful update layout image (o .numbers) (o .alone) bytes w l u in
       let es = uncut kind layout image (w .chip) in
       let after = life kind w es in
-      let s = ordered-loads after (lives kind lawful update area es w inv (r .valid)) (r .on) in
-      let same : s .image ≡ image = some-same (sym (s .ordered) ∙ r .ordered) in
-      record { valid = r .valid; state = r .state; loaded = subst (λ (i : List ℕ). loads (after .chip) i update true) same (s .loaded) }
+      let s = ordered-loads after (lives kind lawful update area es w inv (r .valid)) (r .reached .on) in
+      let same : s .image ≡ image = some-same (sym (s .ordered) ∙ r .reached .ordered) in
+      record { valid = r .valid; state = r .reached .state; loaded = subst (λ (i : List ℕ). loads (after .chip) i update true) same (s .loaded) }
 
   claim : (w : World) → Invariant kind update area w → Claim kind loads update golden w
   claim w inv = record {

@@ -28,22 +28,22 @@ use Rattle.updater.proofs.ReplyLaws.{starts as start-accepted, moves}
 use Rattle.updater.proofs.ObeyLaws.{Obeys}
 use Rattle.updater.proofs.ProgressLaws.{Progress, Advances, Step, advances, ends-on}
 
--- A list of events that finishes a run: it keeps the premises, and after it the run has ended well, the switch is ON, and the image is the ordered one.
-pub record Finishes (kind : Kind) (update : ℕ) (layout : Layout) (image : List ℕ) (w : World) (events : List Event) : Type 0 where
+-- A list of events that keeps the premises and leads to a world of which something holds.
+pub record Leads (kind : Kind) (update : ℕ) (goal : World → Type 0) (w : World) (events : List Event) : Type 0 where
   pub valid : Valid kind update w events
-  pub state : life kind w events .run ≡ some (record { state = ended (first layout (length image)) 0; image = image; carried = false })
-  pub on : isOn kind (life kind w events) ≡ true
-  pub ordered : life kind w events .image ≡ some image
-
--- THE UNCUT RUN does.
-abbrev pub Ran : Kind → ℕ → Layout → List ℕ → World → Type 0
-Ran kind update layout image w = Finishes kind update layout image w (uncut kind layout image (w .chip))
+  pub reached : goal (life kind w events)
 
 -- one event before
-event-first : (kind : Kind) (update : ℕ) (layout : Layout) (image : List ℕ) (w : World) (event : Event) (events : List Event) →
-    May kind update w event → Finishes kind update layout image (next kind w event) events → Finishes kind update layout image w (event ∷ events)
+pub event-first : (kind : Kind) (update : ℕ) (goal : World → Type 0) (w : World) (event : Event) (events : List Event) →
+    May kind update w event → Leads kind update goal (next kind w event) events → Leads kind update goal w (event ∷ events)
 unfolding Valid life
-event-first kind update layout image w event events may f = record { valid = (may, f .valid); state = f .state; on = f .on; ordered = f .ordered }
+event-first kind update goal w event events may l = record { valid = (may, l .valid); reached = l .reached }
+
+-- A run that has ended well: the switch is ON, and the image is the ordered one.
+pub record Finished (kind : Kind) (layout : Layout) (image : List ℕ) (w : World) : Type 0 where
+  pub state : w .run ≡ some (record { state = ended (first layout (length image)) 0; image = image; carried = false })
+  pub on : isOn kind w ≡ true
+  pub ordered : w .image ≡ some image
 
 -- What a look reads is true.
 reads-true : (order : Order) (chip : List ℕ) → True order chip (readBy order chip)
@@ -77,7 +77,7 @@ module _ (kind : Kind) (lawful : Lawful kind) (update : ℕ) (layout : Layout) (
   eventsFrom place chip = obeying image (drop place (orders kind layout image)) chip
 
   abbrev Ends : World → List Event → Type 0
-  Ends w events = Finishes kind update layout image w events
+  Ends w events = Leads kind update (Finished kind layout image) w events
 
   -- How far a run has come: its state fits, its chip is as far, and from phase 6 on its image is the ordered one.
   record Reached (phase i : ℕ) (chip : List ℕ) (last : Option (List ℕ)) : Type 0 where
@@ -103,9 +103,7 @@ module _ (kind : Kind) (lawful : Lawful kind) (update : ℕ) (layout : Layout) (
   unfolding Valid life
   finished chip looks ordered last reached = record {
     valid = tt;
-    state = refl;
-    on = ends-on kind lawful layout image numbers bytes chip (reached .long) (reached .progress);
-    ordered = reached .known (omega arith);
+    reached = record { state = refl; on = ends-on kind lawful layout image numbers bytes chip (reached .long) (reached .progress); ordered = reached .known (omega arith) };
   }
 
   ended-finished : (phase i : ℕ) (chip : List ℕ) (looks : ℕ) (ordered : Bool) (last : Option (List ℕ)) → Reached phase i chip last → phase ≡ 7 → i ≡ 0 →
@@ -177,17 +175,17 @@ module _ (kind : Kind) (lawful : Lawful kind) (update : ℕ) (layout : Layout) (
     moved = moves kind (at phase i) image (saidTo (order phase i)) (readBy (order phase i) then-chip) (reached .fitted) runs (obeys .replied)
 
     -- and they move the run on.
-    order-first : (looks : ℕ) (ordered : Bool) (events : List Event) →
-        ((looks : ℕ) (ordered : Bool) → Ends (world then-chip (after (at phase i)) false looks ordered then-image) events) →
-        Ends (world chip (at phase i) false looks ordered last)
+    order-first : (goal : World → Type 0) (looks : ℕ) (ordered : Bool) (events : List Event) →
+        ((looks : ℕ) (ordered : Bool) → Leads kind update goal (world then-chip (after (at phase i)) false looks ordered then-image) events) →
+        Leads kind update goal (world chip (at phase i) false looks ordered last)
         (carries (obeyedSpan (order phase i) chip) ∷ replies image (saidTo (order phase i)) (readBy (order phase i) then-chip) ∷ events)
     unfolding May next onRun carryOut afterReply MayReply
-    order-first looks ordered events rest =
-        event-first kind update layout image _ _ _
+    order-first goal looks ordered events rest =
+        event-first kind update goal _ _ _
         (record { asked = runs; once = refl; leaves = obeys .may })
-        (event-first kind update layout image _ _ _
+        (event-first kind update goal _ _ _
         (subst (λ (a : ReplyAnswer). MayReply a kind image read carried done) (sym moved) (record { carried = refl; same = refl; reads = reads-true (order phase i) then-chip }))
-        (subst (λ (a : ReplyAnswer). Ends (afterReply a carried done) events) (sym moved) (rest (done .looks) (done .ordered))))
+        (subst (λ (a : ReplyAnswer). Leads kind update goal (afterReply a carried done) events) (sym moved) (rest (done .looks) (done .ordered))))
       where
         read : List ℕ
         read = readBy (order phase i) then-chip
@@ -205,7 +203,7 @@ module _ (kind : Kind) (lawful : Lawful kind) (update : ℕ) (layout : Layout) (
         (looks : ℕ) (ordered : Bool) → Ends (world chip (at phase i) false looks ordered last) (eventsFrom (position (at phase i)) chip)
     order-finishes left e rest looks ordered =
         subst (Ends (world chip (at phase i) false looks ordered last)) (sym first-events)
-        (order-first looks ordered (eventsFrom (position (at phase i) + 1) then-chip)
+        (order-first (Finished kind layout image) looks ordered (eventsFrom (position (at phase i) + 1) then-chip)
         (λ looks ordered.
         subst (λ (s : State). Ends (world then-chip s false looks ordered then-image) (eventsFrom (position (at phase i) + 1) then-chip)) (sym (f .comes))
         (subst (λ (n : ℕ). Ends (world then-chip (at (f .then-phase) (f .then-index)) false looks ordered then-image) (eventsFrom n then-chip)) one-on
@@ -238,10 +236,10 @@ module _ (kind : Kind) (lawful : Lawful kind) (update : ℕ) (layout : Layout) (
       go false r rest = absurd (let p = position-ended (at phase i) (length image) (reached .fitted) r in omega arith)
 
   -- THE UNCUT RUN.
-  pub uncut-run : (w : World) → layout .length ≡ length (w .chip) → layout .update ≡ update → Ran kind update layout image w
+  pub uncut-run : (w : World) → layout .length ≡ length (w .chip) → layout .update ≡ update → Ends w (uncut kind layout image (w .chip))
   unfolding May MayStart next afterStart before
   uncut-run w l u =
-      event-first kind update layout image w (starts layout image) (obeying image (orders kind layout image) (w .chip))
+      event-first kind update (Finished kind layout image) w (starts layout image) (obeying image (orders kind layout image) (w .chip))
       (subst (λ (a : StartAnswer). MayStart a update layout w) (sym accepted) (l, u))
       (subst (λ (a : StartAnswer). Ends (afterStart a image w) (obeying image (orders kind layout image) (w .chip))) (sym accepted) run)
     where
