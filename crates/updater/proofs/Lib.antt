@@ -10,3 +10,5 @@ pub mod ProgressLaws
 pub mod UncutLaws
 pub mod LifeTheorem
 pub mod BuiltTheorem
+pub mod MixtureLaws
+pub mod BenchLaws

@@ -30,7 +30,7 @@ page-most image i h =
 
 module _ (kind : Kind) (lawful : Lawful kind) where
   -- The table's orders, phase by phase.
-  in-reach : (layout : Layout) (image : List ℕ) → Numbers layout (length image) → (i phase : ℕ) → phase < 7 → i < count layout (length image) phase →
+  pub in-reach : (layout : Layout) (image : List ℕ) → Numbers layout (length image) → (i phase : ℕ) → phase < 7 → i < count layout (length image) phase →
       InReach layout (placeOf (orderOf kind layout image phase i)) (spanOf (orderOf kind layout image phase i)) × OnePage (orderOf kind layout image phase i)
   unfolding count byPhase orderOf placeOf spanOf OnePage
   in-reach layout image numbers i =
