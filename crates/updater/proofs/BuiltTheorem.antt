@@ -1,6 +1,6 @@
 -- DEMAND 3 for the chip that the builder answers, in the words of the calls' contracts.
-use Prim.Native.Nat.{ℕ, _+_, _-_, _<_, _≤_}
-use mathlib.Core.Path.{_≡_, refl, sym, ap, subst, _∙_}
+use Prim.Native.Nat.{ℕ, _+_, _-_, _≤_}
+use mathlib.Core.Path.{_≡_, refl, sym, _∙_}
 use mathlib.Core.Bool.{Bool, true, false}
 use mathlib.Core.List.{List}
 use native.Mathlib.Omega.{arith}
@@ -8,11 +8,11 @@ use lib.ListN.{length}
 use Rattle.packets.specs.Answers.{lengthAllowed, longestImage}
 use Rattle.packets.proofs.Laws.{false-true, length-allowed, accepted-length, boots, booted, accepts, whole-writes}
 use Rattle.chip.specs.Layout.{goldenAt}
-use Rattle.chip.specs.Kind.{Kind, spi, switchWord, goldenArea, LoadsAlone, Loads, Good, Stands}
+use Rattle.chip.specs.Kind.{Kind, spi, switchWord, goldenArea, Loads, Good, Stands}
 use Rattle.chip.specs.Answers.{builtChip, buildAnswer}
 use Rattle.chip.specs.declared.kind.Layout.{Layout}
 use Rattle.chip.specs.declared.builder.BuildAnswer.the-variants.{Built}
-use Rattle.chip.proofs.Laws.{spi-lawful, Asked, questions, update-allowed, built-good, built-off, built-loads}
+use Rattle.chip.proofs.Laws.{spi-lawful, questions, update-allowed, built-good, built-off, built-loads}
 use Rattle.updater.specs.Life.{fresh, Event, Valid, life, Claim, Begins}
 use Rattle.updater.specs.Built.{Boots, BuiltDemand3}
 use Rattle.updater.proofs.LifeTheorem.{Reads, claims}

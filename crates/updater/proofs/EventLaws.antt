@@ -1,5 +1,5 @@
 -- The events do what document 01 says of them, beside the premises: what a cut, a refusal and an accepted start leave as it was.
-use mathlib.Core.Path.{_≡_, refl, sym, ap, _∙_}
+use mathlib.Core.Path.{_≡_, refl}
 use mathlib.Core.Bool.{false}
 use mathlib.Core.Option.{none, some}
 use mathlib.Core.List.{List}

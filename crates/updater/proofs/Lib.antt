@@ -6,9 +6,11 @@ pub mod OrderListTheorem
 pub mod EventLaws
 pub mod LifeLaws
 pub mod ObeyLaws
-pub mod ProgressLaws
-pub mod UncutLaws
-pub mod LifeTheorem
-pub mod BuiltTheorem
 pub mod MixtureLaws
 pub mod BenchLaws
+pub mod ProgressLaws
+pub mod UncutLaws
+pub mod BenchLifeTheorem
+pub mod LifeTheorem
+pub mod BuiltTheorem
+pub mod Laws

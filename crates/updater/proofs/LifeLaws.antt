@@ -1,5 +1,5 @@
 -- What every event keeps: the invariant of a chip's life, of any kind that keeps its laws.
-use Prim.Native.Nat.{ℕ, zero, suc, _+_, _-_, _*_, _/_, _%_, _<_, _≤_}
+use Prim.Native.Nat.{ℕ, _+_, _-_, _*_, _/_, _%_, _<_, _≤_}
 use mathlib.Core.Path.{_≡_, refl, sym, ap, subst, _∙_}
 use mathlib.Core.Logic.{⊎-elim}
 use mathlib.Core.Bool.{Bool, true, false, _&&_, _||_}
@@ -11,23 +11,23 @@ use lib.Dec.{eqb, ltb}
 use lib.ListN.{length, getD, drop, length-take, length-drop, getD-replicate}
 use lib.Seq.{ext-getD}
 use Rattle.packets.proofs.Laws.{false-true, length-allowed}
-use Rattle.chip.specs.Layout.{page, segment, switchAt, goldenAt}
+use Rattle.chip.specs.Layout.{page, segment, switchAt}
 use Rattle.chip.specs.Flash.{erased, span, over, afterErase, afterProgram, MayLeave}
 use Rattle.chip.specs.Kind.{Kind, switchWord, goldenArea, Covers, LoadsAlone, Good, Stands, Lawful}
 use Rattle.chip.specs.declared.kind.Layout.{Layout}
 use Rattle.chip.proofs.Laws.{getD-any, span-at, span-length, over-length, over-before, over-after, erased-length, cleared-length, update-allowed, area-allowed, golden-stays, erase-good, program-good, area-switch, area-good}
-use Rattle.updater.specs.Run.{byPhase, count, first, after, ended, running, fits}
+use Rattle.updater.specs.Run.{byPhase, count, after, ended, running, fits}
 use Rattle.updater.specs.Orders.{Order, erase, program, look, filled, pageOf, orderOf, differs}
 use Rattle.updater.specs.Effects.{obeyedSpan, leaves}
 use Rattle.updater.specs.Answers.{startAnswer, stopOf, replyAnswer}
 use Rattle.updater.specs.OrderList.{Replies, Moved}
-use Rattle.updater.specs.Life.{Run, World, found, starts, carries, replies, cuts, Event, afterStart, agrees, lookSeen, orderedImage, carryOut, afterReply, afterCut, orderOfRun, onRun, next, MayStart, MayBeLeft, MayOrder, True, Honest, MayReply, May, Valid, life, isOn, Standing}
+use Rattle.updater.specs.Life.{Run, World, found, starts, carries, replies, cuts, Event, afterStart, agrees, lookSeen, orderedImage, carryOut, afterReply, orderOfRun, onRun, next, MayStart, MayBeLeft, MayOrder, True, Honest, MayReply, May, Valid, life, isOn, Standing}
 use Rattle.updater.specs.declared.run.State.{State}
 use Rattle.updater.specs.declared.run.StartAnswer.{StartAnswer}
 use Rattle.updater.specs.declared.run.StartAnswer.the-variants.{Started, Refused as StartRefused}
 use Rattle.updater.specs.declared.run.ReplyAnswer.{ReplyAnswer}
 use Rattle.updater.specs.declared.run.ReplyAnswer.the-variants.{Next, Stopped, Refused}
-use Rattle.updater.proofs.RunLaws.{phases, Numbers, numbers-image, fits-says, running-says, area-segments, image-pages, area-pages, after-index, after-phase, last-or-not, after-fits, first-fits}
+use Rattle.updater.proofs.RunLaws.{phases, Numbers, numbers-image, fits-says, running-says, area-segments, image-pages, after-index, after-phase, last-or-not, after-fits, first-fits}
 use Rattle.updater.proofs.OrderLaws.{current-order, filled-at, page-at, filled-length}
 use Rattle.updater.proofs.ReplyLaws.{none-same, opened, moved, halted}
 

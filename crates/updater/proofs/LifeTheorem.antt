@@ -1,19 +1,19 @@
 -- DEMAND 3: the theorem, from the invariant (LifeLaws) and the uncut run (UncutLaws).
-use Prim.Native.Nat.{ℕ, _+_, _-_, _<_, _≤_}
+use Prim.Native.Nat.{ℕ, _+_, _-_, _≤_}
 use mathlib.Core.Path.{_≡_, refl, sym, ap, subst, _∙_}
 use mathlib.Core.Bool.{Bool, true, false}
-use mathlib.Core.Option.{Option, some, none}
+use mathlib.Core.Option.{Option, some}
 use mathlib.Core.List.{List}
 use native.Mathlib.Omega.{arith}
 use borrow.Author.Tests.{eqb-true}
-use lib.ListN.{length, getD}
+use lib.ListN.{length}
 use Rattle.packets.specs.declared.reader.Outcome.the-variants.{Loaded}
 use Rattle.packets.proofs.Laws.{false-true}
 use Rattle.chip.specs.Layout.{goldenAt}
-use Rattle.chip.specs.Kind.{Kind, switchWord, goldenArea, Loads, Good, Stands, Lawful}
+use Rattle.chip.specs.Kind.{Kind, goldenArea, Loads, Good, Stands, Lawful}
 use Rattle.chip.specs.declared.kind.Layout.{Layout}
 use Rattle.updater.specs.Answers.{startAnswer}
-use Rattle.updater.specs.Life.{Run, World, onRun, Event, Valid, life, isOn, uncut, Loading, Updates, OrderedLoads, Claim, Standing, Begins, Demand3}
+use Rattle.updater.specs.Life.{Run, World, onRun, Event, Valid, life, isOn, uncut, Loading, Updates, OrderedLoads, Bytes, Claim, Begins, Demand3}
 use Rattle.updater.specs.declared.run.State.{State}
 use Rattle.updater.specs.declared.run.StartAnswer.the-variants.{Started}
 use Rattle.updater.proofs.ReplyLaws.{opened}
@@ -83,7 +83,7 @@ module _ (kind : Kind) (lawful : Lawful kind) (update : ℕ) (first : World) (be
 
   -- One more run: the list with it is itself one that keeps the premises, so what is ON loads what was ordered, and that is its image.
   again : (w : World) → Invariant kind update area w → (layout : Layout) (image : List ℕ) (state : State) → startAnswer kind layout image ≡ Started state → layout .length ≡ length (w .chip) →
-      layout .update ≡ update → ((i : ℕ) → i < length image → getD image i 0 < 256) → Updates kind loads update layout image w
+      layout .update ≡ update → Bytes image → Updates kind loads update layout image w
   again w inv layout image state e l u bytes =
       let o = opened kind lawful layout image state e in
       let r = uncut-run kind lawful update layout image (o .numbers) (o .alone) bytes w l u in

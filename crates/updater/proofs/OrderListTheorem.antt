@@ -1,22 +1,18 @@
 -- DEMAND 2: a run gives exactly the orders of the list, in order.
-use Prim.Native.Nat.{ℕ, _+_, _-_, _*_, _/_, _%_, _<_, _≤_}
+use Prim.Native.Nat.{ℕ, _+_, _-_, _*_, _/_, _<_, _≤_}
 use mathlib.Core.Path.{_≡_, refl, sym, ap, subst, _∙_}
 use mathlib.Core.Logic.{inl, inr}
-use mathlib.Core.Bool.{true}
 use mathlib.Core.List.{List}
 use native.Mathlib.Omega.{arith}
 use lib.ListN.{length, drop, length-take, length-drop}
-use Rattle.chip.specs.Layout.{page, segment, switchAt}
+use Rattle.chip.specs.Layout.{page}
 use Rattle.chip.specs.Kind.{Kind, Lawful}
 use Rattle.chip.specs.declared.kind.Layout.{Layout}
 use Rattle.chip.proofs.Laws.{erased-length, update-allowed}
-use Rattle.updater.specs.Run.{byPhase, count, before, position, first, after, running, fits}
-use Rattle.updater.specs.Orders.{Order, filled, pageOf, orderOf, currentOrder}
+use Rattle.updater.specs.Run.{byPhase, count, before, position}
+use Rattle.updater.specs.Orders.{Order, pageOf, orderOf}
 use Rattle.updater.specs.Effects.{placeOf}
-use Rattle.updater.specs.Answers.{replyAnswer}
-use Rattle.updater.specs.OrderList.{Moved, spanOf, InReach, OnePage, Demand2}
-use Rattle.updater.specs.declared.run.State.{State}
-use Rattle.updater.specs.declared.run.ReplyAnswer.the-variants.{Next}
+use Rattle.updater.specs.OrderList.{spanOf, InReach, OnePage, Demand2}
 use Rattle.updater.proofs.RunLaws.{phases, Numbers, numbers-image, fits-says, running-says, area-segments, image-pages, area-pages, after-position, position-ended}
 use Rattle.updater.proofs.OrderLaws.{orders-length, current-order, filled-length}
 use Rattle.updater.proofs.ReplyLaws.{moved, halted, moves}

@@ -1,5 +1,5 @@
 -- Replies: question 9 both ways, and what a start and a reply that are accepted say.
-use Prim.Native.Nat.{ℕ, zero, suc, _+_, _-_, _<_, _≤_}
+use Prim.Native.Nat.{ℕ, zero, suc, _+_, _-_, _<_}
 use mathlib.Core.Path.{_≡_, refl, sym, ap, subst, _∙_}
 use mathlib.Core.Bool.{Bool, true, false, _&&_}
 use mathlib.Core.Option.{Option, some, none}
@@ -9,21 +9,19 @@ use borrow.Author.Tests.{eqb-true, eqb-false, eq-eqb}
 use lib.Dec.{eqb}
 use lib.ListN.{length, getD}
 use Rattle.packets.specs.Packet.{ask}
-use Rattle.packets.specs.Answers.{imageLength, aloneCase}
+use Rattle.packets.specs.Answers.{aloneCase}
 use Rattle.packets.specs.declared.reader.Outcome.{Outcome}
 use Rattle.packets.specs.declared.reader.Outcome.the-variants.{Loaded, Iprog, Stuck}
 use Rattle.packets.proofs.Laws.{asked, false-true}
 use Rattle.chip.specs.Layout.{askLayout}
 use Rattle.chip.specs.Kind.{Kind, LoadsAlone, Lawful}
 use Rattle.chip.specs.declared.kind.Layout.{Layout}
-use Rattle.updater.specs.Run.{first, after, ended, running, fits}
+use Rattle.updater.specs.Run.{first, after, running, fits}
 use Rattle.updater.specs.Orders.{Order, erase, program, look, currentOrder, differs}
-use Rattle.updater.specs.Answers.{askRun, startAnswer, done, read, asksFor, stopOf, compared, repliedTo, replyAnswer}
+use Rattle.updater.specs.Answers.{askRun, startAnswer, done, read, asksFor, compared, repliedTo, replyAnswer}
 use Rattle.updater.specs.OrderList.{Replies, FirstDiffers, Moved, Halted}
 use Rattle.updater.specs.declared.run.State.{State}
-use Rattle.updater.specs.declared.run.StartAnswer.{StartAnswer}
 use Rattle.updater.specs.declared.run.StartAnswer.the-variants.{Started, Refused as StartRefused}
-use Rattle.updater.specs.declared.run.ReplyAnswer.{ReplyAnswer}
 use Rattle.updater.specs.declared.run.ReplyAnswer.the-variants.{Next, Stopped, Refused}
 use Rattle.updater.proofs.RunLaws.{Numbers}
 

@@ -1,18 +1,18 @@
 -- A run's state: what one that fits says, how many orders the phases have, and the next state.
-use Prim.Native.Nat.{ℕ, zero, suc, _+_, _-_, _*_, _/_, _%_, _<_, _≤_}
+use Prim.Native.Nat.{ℕ, zero, suc, _+_, _-_, _*_, _/_, _<_, _≤_}
 use mathlib.Core.Path.{_≡_, refl, sym, ap, _∙_}
 use mathlib.Core.Logic.{_⊎_, inl, inr, ⊎-elim}
 use mathlib.Core.Bool.{Bool, true, false}
 use native.Mathlib.Omega.{arith}
 use borrow.Author.Tests.{ltb-true, ltb-false, leb-true, eqb-true, lt-ltb, le-ltb, eq-eqb}
-use lib.Dec.{eqb, leb, ltb}
+use lib.Dec.{eqb, ltb}
 use Rattle.packets.specs.Packet.{ask}
 use Rattle.packets.specs.Answers.{lengthAllowed, imageLength}
 use Rattle.packets.proofs.Laws.{asked, false-true}
 use Rattle.chip.specs.Layout.{page, segment, updateAllowed, areaAllowed, askLayout}
 use Rattle.chip.specs.declared.kind.Layout.{Layout}
 use Rattle.chip.proofs.Laws.{area-allowed}
-use Rattle.updater.specs.Run.{byPhase, pages, count, before, total, position, first, after, ended, running, outcomeAllowed, stands, fits}
+use Rattle.updater.specs.Run.{byPhase, pages, count, before, total, position, first, after, running, outcomeAllowed, stands, fits}
 use Rattle.updater.specs.declared.run.State.{State}
 
 -- A fact of phases 0 to 6, one by one.

@@ -1,4 +1,4 @@
--- An uncut run on a chip that obeys keeps the premises, ends in phase 7 with outcome 0, and leaves the switch ON, its own image being the ordered one. Of any kind.
+-- A run on a chip that obeys, as events. Uncut it keeps the premises, ends in phase 7 with outcome 0, and leaves the switch ON, its own image being the ordered one; cut, it leaves what the bench leaves. Of any kind.
 use Prim.Native.Nat.{ℕ, zero, suc, _+_, _<_, _≤_}
 use mathlib.Core.Path.{_≡_, refl, sym, ap, subst, _∙_}
 use mathlib.Core.Logic.{⊎-elim}
@@ -9,14 +9,17 @@ use native.Mathlib.Omega.{arith}
 use native.Mathlib.Nat.{zero-add}
 use borrow.Author.Tests.{ltb-false, eqb-false}
 use lib.Dec.{eqb}
-use lib.ListN.{length, getD, drop, drop-of-length-le}
+use lib.ListN.{length, drop, take, drop-of-length-le}
 use Rattle.chip.specs.Kind.{Kind, LoadsAlone, Lawful}
 use Rattle.chip.specs.declared.kind.Layout.{Layout}
 use Rattle.updater.specs.Run.{byPhase, count, before, total, position, first, after, ended, running, fits}
 use Rattle.updater.specs.Orders.{Order, erase, program, look, orderOf, orders, currentOrder}
-use Rattle.updater.specs.Effects.{obeyedSpan, obeyed}
+use Rattle.updater.specs.Effects.{placeOf, obeyedSpan, obeyed, obeyedAll}
 use Rattle.updater.specs.Answers.{startAnswer, replyAnswer}
-use Rattle.updater.specs.Life.{Run, World, Event, starts, carries, replies, afterStart, orderedImage, carryOut, afterReply, onRun, next, MayStart, True, MayReply, May, Valid, life, isOn, saidTo, readBy, obeying, uncut}
+use Rattle.updater.specs.OrderList.{spanOf}
+use Rattle.updater.specs.Bench.{cutAllowed, cutIn}
+use Rattle.updater.specs.BenchLife.{cutEvents, benchEvents}
+use Rattle.updater.specs.Life.{Run, World, Event, starts, carries, replies, afterStart, afterCut, orderedImage, carryOut, afterReply, onRun, next, MayStart, True, MayReply, May, Valid, life, isOn, saidTo, readBy, obeying, uncut, Bytes}
 use Rattle.updater.specs.declared.run.State.{State}
 use Rattle.updater.specs.declared.run.StartAnswer.{StartAnswer}
 use Rattle.updater.specs.declared.run.StartAnswer.the-variants.{Started}
@@ -26,6 +29,7 @@ use Rattle.updater.proofs.RunLaws.{Numbers, running-says, after-index, 
 use Rattle.updater.proofs.OrderLaws.{orders-length, current-order, orders-left}
 use Rattle.updater.proofs.ReplyLaws.{starts as start-accepted, moves}
 use Rattle.updater.proofs.ObeyLaws.{Obeys}
+use Rattle.updater.proofs.BenchLaws.{order-within, damage-may}
 use Rattle.updater.proofs.ProgressLaws.{Progress, Advances, Step, advances, ends-on}
 
 -- A list of events that keeps the premises and leads to a world of which something holds.
@@ -61,7 +65,7 @@ orders-image phase image last known h = go (eqb phase 5) refl
     go true e = refl
     go false e = known (let n = eqb-false phase 5 e in omega arith)
 
-module _ (kind : Kind) (lawful : Lawful kind) (update : ℕ) (layout : Layout) (image : List ℕ) (numbers : Numbers layout (length image)) (alone : LoadsAlone kind image) (bytes : (i : ℕ) → i < length image → getD image i 0 < 256) where
+module _ (kind : Kind) (lawful : Lawful kind) (update : ℕ) (layout : Layout) (image : List ℕ) (numbers : Numbers layout (length image)) (alone : LoadsAlone kind image) (bytes : Bytes image) where
   -- the run's state at a phase's index, its order, and a world in which the run is open
   abbrev at : ℕ → ℕ → State
   at phase i = record { layout = layout; length = length image; phase = phase; index = i; outcome = 0 }
@@ -113,11 +117,15 @@ module _ (kind : Kind) (lawful : Lawful kind) (update : ℕ) (layout : Layout) (
       (subst (λ (j : ℕ). Reached 7 j chip last → Ends (world chip (at 7 j) false looks ordered last) []) (sym z) (finished chip looks ordered last))
       reached
 
-  no-events : (place : ℕ) (chip : List ℕ) → place ≡ total layout (length image) → eventsFrom place chip ≡ []
-  unfolding obeying
-  no-events place chip h =
+  none-left : (phase i : ℕ) → fits (at phase i) (length image) ≡ true → running (at phase i) ≡ false → drop (position (at phase i)) (orders kind layout image) ≡ []
+  none-left phase i e r =
       let l = orders-length kind layout image in
-      ap (λ (o : List Order). obeying image o chip) (drop-of-length-le (orders kind layout image) {i = place} (omega arith))
+      let p = position-ended (at phase i) (length image) e r in
+      drop-of-length-le (orders kind layout image) {i = position (at phase i)} (omega arith)
+
+  no-events : (phase i : ℕ) (chip : List ℕ) → fits (at phase i) (length image) ≡ true → running (at phase i) ≡ false → eventsFrom (position (at phase i)) chip ≡ []
+  unfolding obeying
+  no-events phase i chip e r = ap (λ (o : List Order). obeying image o chip) (none-left phase i e r)
 
   -- Before its end the current order advances the chip, and so the run comes further.
   module _ (phase i : ℕ) (chip : List ℕ) (last : Option (List ℕ)) (reached : Reached phase i chip last) (runs : running (at phase i) ≡ true) where
@@ -224,7 +232,7 @@ module _ (kind : Kind) (lawful : Lawful kind) (update : ℕ) (layout : Layout) (
       go true r = absurd (let p = position-running (at phase i) (length image) (reached .fitted) r in omega arith)
       go false r =
           let s = reached .stop (ltb-false phase 7 r) in
-          subst (Ends (world chip (at phase i) false looks ordered last)) (sym (no-events (position (at phase i)) chip (omega arith)))
+          subst (Ends (world chip (at phase i) false looks ordered last)) (sym (no-events phase i chip (reached .fitted) r))
           (ended-finished phase i chip looks ordered last reached (s .0) (s .1))
   finishes (suc left) phase i chip looks ordered last reached e = go (running (at phase i)) refl (λ chip last p j looks ordered. finishes left p j chip looks ordered last)
     where
@@ -235,16 +243,90 @@ module _ (kind : Kind) (lawful : Lawful kind) (update : ℕ) (layout : Layout) (
       go true r rest = order-finishes phase i chip last reached r left e (rest (obeyed (order phase i) chip) (orderedImage (eqb phase 5) image last)) looks ordered
       go false r rest = absurd (let p = position-ended (at phase i) (length image) (reached .fitted) r in omega arith)
 
-  -- THE UNCUT RUN.
-  pub uncut-run : (w : World) → layout .length ≡ length (w .chip) → layout .update ≡ update → Ends w (uncut kind layout image (w .chip))
-  unfolding May MayStart next afterStart before
-  uncut-run w l u =
-      event-first kind update (Finished kind layout image) w (starts layout image) (obeying image (orders kind layout image) (w .chip))
+  -- its start before
+  start-first : (goal : World → Type 0) (w : World) (events : List Event) → layout .length ≡ length (w .chip) → layout .update ≡ update →
+      Leads kind update goal (world (w .chip) (at 0 0) false 0 false (w .image)) events → Leads kind update goal w (starts layout image ∷ events)
+  unfolding May MayStart next afterStart
+  start-first goal w events l u run =
+      event-first kind update goal w (starts layout image) events
       (subst (λ (a : StartAnswer). MayStart a update layout w) (sym accepted) (l, u))
-      (subst (λ (a : StartAnswer). Ends (afterStart a image w) (obeying image (orders kind layout image) (w .chip))) (sym accepted) run)
+      (subst (λ (a : StartAnswer). Leads kind update goal (afterStart a image w) events) (sym accepted) run)
     where
       accepted : startAnswer kind layout image ≡ Started (first layout (length image))
       accepted = start-accepted kind layout image numbers alone
 
-      run : Ends (world (w .chip) (at 0 0) false 0 false (w .image)) (eventsFrom 0 (w .chip))
-      run = finishes (total layout (length image)) 0 0 (w .chip) 0 false (w .image) (begins w l) (zero-add (total layout (length image)))
+  -- THE UNCUT RUN.
+  pub uncut-run : (w : World) → layout .length ≡ length (w .chip) → layout .update ≡ update → Ends w (uncut kind layout image (w .chip))
+  unfolding before
+  uncut-run w l u =
+      start-first (Finished kind layout image) w (obeying image (orders kind layout image) (w .chip)) l u
+      (finishes (total layout (length image)) 0 0 (w .chip) 0 false (w .image) (begins w l) (zero-add (total layout (length image))))
+
+  -- A RUN THAT IS CUT after k orders, as the bench cuts it: the events lead to the chip that the bench leaves.
+  module _ (damage : List ℕ) (small : Bytes damage) where
+    abbrev Cut : ℕ → List Order → List ℕ → World → Type 0
+    Cut k left chip w = w .chip ≡ cutIn (drop k left) (obeyedAll (take k left) chip) damage
+
+    -- what is to be shown of a run that is cut after k of the orders left
+    abbrev CutsShort : ℕ → ℕ → ℕ → List ℕ → Option (List ℕ) → List Order → Type 0
+    CutsShort k phase i chip last left =
+        (looks : ℕ) (ordered : Bool) → cutAllowed (drop k left) (obeyedAll (take k left) chip) damage ≡ true →
+        Leads kind update (Cut k left chip) (world chip (at phase i) false looks ordered last) (benchEvents k image left chip damage)
+
+    -- none is left
+    cut-none : (k phase i : ℕ) (chip : List ℕ) (last : Option (List ℕ)) → CutsShort k phase i chip last []
+    unfolding cutEvents benchEvents cutIn obeyedAll Valid life
+    cut-none zero phase i chip last looks ordered allowed = record { valid = tt; reached = refl }
+    cut-none (suc k) phase i chip last looks ordered allowed = record { valid = tt; reached = refl }
+
+    module _ (phase i : ℕ) (chip : List ℕ) (last : Option (List ℕ)) (reached : Reached phase i chip last) (runs : running (at phase i) ≡ true) (more : List Order) where
+      within-chip : placeOf (order phase i) + spanOf (order phase i) ≤ length chip
+      within-chip =
+          let s = says phase i chip last reached runs in
+          let l = reached .long in
+          subst (λ (o : Order). placeOf o + spanOf o ≤ length chip) (sym (is-order phase i chip last reached runs))
+          (let w = order-within kind lawful layout image numbers phase (s .0) i (s .1) in omega arith)
+
+      -- in the current order
+      cut-here : CutsShort 0 phase i chip last (order phase i ∷ more)
+      unfolding cutAllowed cutEvents benchEvents May next onRun carryOut afterCut cutIn obeyedAll Valid life
+      cut-here looks ordered allowed =
+          event-first kind update (Cut 0 (order phase i ∷ more) chip) (world chip (at phase i) false looks ordered last) _ _
+          (record { asked = runs; once = refl; leaves = damage-may (order phase i) chip damage within-chip small allowed })
+          (record { valid = (tt, tt); reached = refl })
+
+      -- in a later one
+      cut-later : (k : ℕ) → ((p j : ℕ) → Reached p j (obeyed (order phase i) chip) (orderedImage (eqb phase 5) image last) → position (at p j) ≡ position (at phase i) + 1 →
+          CutsShort k p j (obeyed (order phase i) chip) (orderedImage (eqb phase 5) image last) more) → CutsShort (suc k) phase i chip last (order phase i ∷ more)
+      unfolding benchEvents obeyedAll
+      cut-later k rest looks ordered allowed =
+          order-first phase i chip last reached runs (Cut k more (obeyed (order phase i) chip)) looks ordered (benchEvents k image more (obeyed (order phase i) chip) damage)
+          (λ looks ordered.
+          let f = further phase i chip last reached runs in
+          subst (λ (s : State). Leads kind update (Cut k more (obeyed (order phase i) chip)) (world (obeyed (order phase i) chip) s false looks ordered (orderedImage (eqb phase 5) image last)) (benchEvents k image more (obeyed (order phase i) chip) damage)) (sym (f .comes))
+          (rest (f .then-phase) (f .then-index) (f .reached) (ap position (sym (f .comes)) ∙ after-position (at phase i) (length image) (reached .fitted) runs) looks ordered allowed))
+
+    cuts-short : (k phase i : ℕ) (chip : List ℕ) (last : Option (List ℕ)) → Reached phase i chip last → CutsShort k phase i chip last (drop (position (at phase i)) (orders kind layout image))
+    cuts-short zero phase i chip last reached = go (running (at phase i)) refl
+      where
+        go : (b : Bool) → running (at phase i) ≡ b → CutsShort 0 phase i chip last (drop (position (at phase i)) (orders kind layout image))
+        go true r = subst (CutsShort 0 phase i chip last) (sym (orders-left kind (at phase i) image (reached .fitted) r)) (cut-here phase i chip last reached r (drop (position (at phase i) + 1) (orders kind layout image)))
+        go false r = subst (CutsShort 0 phase i chip last) (sym (none-left phase i (reached .fitted) r)) (cut-none 0 phase i chip last)
+    cuts-short (suc k) phase i chip last reached = go (running (at phase i)) refl (λ chip last p j r. cuts-short k p j chip last r)
+      where
+        go : (b : Bool) → running (at phase i) ≡ b →
+            ((chip : List ℕ) (last : Option (List ℕ)) (p j : ℕ) → Reached p j chip last → CutsShort k p j chip last (drop (position (at p j)) (orders kind layout image))) →
+            CutsShort (suc k) phase i chip last (drop (position (at phase i)) (orders kind layout image))
+        go true r rest =
+            subst (CutsShort (suc k) phase i chip last) (sym (orders-left kind (at phase i) image (reached .fitted) r))
+            (cut-later phase i chip last reached r (drop (position (at phase i) + 1) (orders kind layout image)) k
+            (λ p j reached e. subst (λ (n : ℕ). CutsShort k p j (obeyed (order phase i) chip) (orderedImage (eqb phase 5) image last) (drop n (orders kind layout image))) e (rest (obeyed (order phase i) chip) (orderedImage (eqb phase 5) image last) p j reached)))
+        go false r rest = subst (CutsShort (suc k) phase i chip last) (sym (none-left phase i (reached .fitted) r)) (cut-none (suc k) phase i chip last)
+
+    -- THE RUN THAT IS CUT.
+    pub cut-run : (w : World) (k : ℕ) → layout .length ≡ length (w .chip) → layout .update ≡ update →
+        cutAllowed (drop k (orders kind layout image)) (obeyedAll (take k (orders kind layout image)) (w .chip)) damage ≡ true →
+        Leads kind update (Cut k (orders kind layout image) (w .chip)) w (starts layout image ∷ benchEvents k image (orders kind layout image) (w .chip) damage)
+    unfolding before
+    cut-run w k l u allowed =
+        start-first (Cut k (orders kind layout image) (w .chip)) w (benchEvents k image (orders kind layout image) (w .chip) damage) l u (cuts-short k 0 0 (w .chip) (w .image) (begins w l) 0 false allowed)

@@ -12,7 +12,7 @@ use Rattle.chip.specs.Kind.{Kind, switchWord, goldenArea, LoadsAlone, Loads, Go
 use Rattle.chip.specs.declared.kind.Layout.{Layout}
 use Rattle.updater.specs.Run.{running, first, ended}
 use Rattle.updater.specs.Orders.{Order, erase, program, look, orders, currentOrder, differs}
-use Rattle.updater.specs.Effects.{placeOf, obeyedSpan, leaves, obeyed}
+use Rattle.updater.specs.Effects.{obeyedSpan, leaves, obeyed}
 use Rattle.updater.specs.Answers.{startAnswer, replyAnswer, done, read}
 use Rattle.updater.specs.declared.run.State.{State}
 use Rattle.updater.specs.declared.run.StartAnswer.{StartAnswer}
@@ -198,6 +198,10 @@ pub record OrderedLoads (loads : Loading) (update : ℕ) (w : World) : Type 0 wh
   pub ordered : w .image ≡ some image
   pub loaded : loads (w .chip) image update true
 
+-- Bytes are below 256.
+abbrev pub Bytes : List ℕ → Type 0
+Bytes bytes = (i : ℕ) → i < length bytes → getD bytes i 0 < 256
+
 -- THE CLAIM about a world.
 pub record Claim (kind : Kind) (loads : Loading) (update : ℕ) (golden : List ℕ) (w : World) : Type 0 where
   -- The reader loads golden, whole and without a jump, exactly when the switch is OFF;
@@ -210,7 +214,7 @@ pub record Claim (kind : Kind) (loads : Loading) (update : ℕ) (golden : List �
   pub found-off : found w ≡ true → w .ordered ≡ false → isOn kind w ≡ false
   -- One more run, uncut on a chip that obeys, makes its own image load: every image that a start with this chip's length and U accepts.
   pub again : (layout : Layout) (image : List ℕ) (state : State) → startAnswer kind layout image ≡ Started state → layout .length ≡ length (w .chip) → layout .update ≡ update →
-      ((i : ℕ) → i < length image → getD image i 0 < 256) → Updates kind loads update layout image w
+      Bytes image → Updates kind loads update layout image w
 
 -- the ordered image, an accepted one, and that it stands at U
 pub record Standing (kind : Kind) (update : ℕ) (w : World) : Type 0 where
