@@ -1,12 +1,45 @@
 /* Tealsettle for a printer's C host. Link target/staticlib/libhost.a, which `rt staticlib host` makes.
  *
  * Every function takes numbers and byte slices (a pointer, then a length) and returns a plain struct.
- * `number` is 0, or the number of the refusal; `place` is then the refusal's place (README.md has the
- * table). No function keeps a pointer, allocates, prints or stops the program. Memory stays the
- * caller's: a `const` slice is only read, and a refusal leaves every other slice as it was.
+ * None asks anything of its numbers and bytes: every input gets an answer or a numbered refusal.
  *
- * A pointer is never null, also where its length is 0, and two slices of one call do not overlap.
- * Lengths are below 2^63. */
+ * Memory stays the caller's: no function keeps a pointer, allocates, prints or stops the program. A `const`
+ * slice is only read. A refusal leaves every lent byte as it was: its number and place are in the struct
+ * that is returned. A pointer is never null, also where its length is 0, and two slices of one call do not
+ * overlap. Lengths are below 2^63.
+ *
+ * In each struct `number` is 0, or the number of the refusal, and `place` the refusal's place. What does
+ * not apply is 0: so is every other field beside a refusal, but for the state of a reply, which is the one
+ * that was given, and the bytes of an order, which are FF.
+ *
+ * Where an answer depends on the kind of chip, `kind` is the first argument: TEALSETTLE_SPI. Any other
+ * number is refused before all else, with 1 at 0, or with 7 at 0 where a run's state is given.
+ *
+ * A layout is three numbers: `length` (F), the chip's length; `update` (U), where its update area
+ * begins; `area` (A), how long that is.
+ *
+ * The refusals, and the stops of a run, in the order in which they are asked. The place is 0 where none
+ * is named.
+ *    1  the kind is none, or the chip's length is no multiple of 4,096 from 16,384 to 16,777,216
+ *    2  the update area does not begin at a multiple of 4,096 from 12,288 up to below the chip's end
+ *    3  the update area has no multiple of 4,096 bytes, none at all, or ends after the chip
+ *    4  the image has no byte, or more than its area has (by itself: more than 16,777,216)
+ *    5  the image does not read by itself to its end; at the faulty word, or at its length where bytes ran out
+ *    6  the image jumps elsewhere (IPROG); at the IPROG word
+ *    7  the state does not fit: kind, layout, image length, phase, index or outcome, or the lent image's length
+ *    8  the run has ended
+ *    9  the reply is not of the kind and length asked for
+ *   10  stop: a look of phase 1 did not read FF; at the first address that differs
+ *   11  stop: a look of phase 4 did not read the image, then FF; at the first address that differs
+ *   12  stop: the look of phase 6 did not read the switch word ON; at the first address that differs
+ *   13  there are too few damage bytes, or in segment 0 one of their bits is neither the old nor the ordered one
+ *   14  a line's characters, line end or number of pairs; at the line's first byte
+ *   15  a line's sum; at the line's first byte
+ *   16  a record's type, its count, or its address; at the line's first byte
+ *   17  a data record that does not start where the last ended, or passes a multiple of 65,536; at the
+ *       line's first byte
+ *   18  no end record, or something after it; at the text's length, or at the byte after the end record's line
+ *   19  the buffer is too short */
 #ifndef TEALSETTLE_H
 #define TEALSETTLE_H
 
@@ -17,24 +50,189 @@
 extern "C" {
 #endif
 
+/* The kind of chip that the FPGA reads over SPI. */
+#define TEALSETTLE_SPI 0u
+
+/* What a reply says: an erase or program is done; or here are the bytes that a look read. */
+#define TEALSETTLE_DONE 0u
+#define TEALSETTLE_READ 1u
+
+/* What an order asks for. */
+#define TEALSETTLE_ERASE 1u
+#define TEALSETTLE_PROGRAM 2u
+#define TEALSETTLE_LOOK 3u
+
+/* ---- Image files ---- */
+
 /* What reading MCS text came to. */
 typedef struct {
     uint32_t number; /* 0, or 14 to 19 */
-    size_t place;    /* of the refusal: a byte of the text; 0 for 19 */
-    size_t length;   /* how many bytes of the image stand at the front of `out`; 0 for a refusal */
+    size_t place;    /* of the refusal: a byte of the text */
+    size_t length;   /* how many bytes of the image stand at the front of `out` */
 } TealsettleRead;
 
 /* Reads MCS text (Intel hexadecimal records of types 00, 01 and 04) into `out`. Bytes of `out` after the
  * image stay as they were. An image has fewer bytes than half its text, so a buffer of half the
- * text's length is always large enough.
- *   14  a line's characters, line end or number of pairs      place: the line's first byte
- *   15  a line's sum                                           place: the line's first byte
- *   16  a record's type, its count, or its address             place: the line's first byte
- *   17  a data record that does not start where the last ended, or passes a multiple of 65,536
- *                                                              place: the line's first byte
- *   18  no end record, or something after it                   place: the text's length, or the byte after it
- *   19  `out` is too short                                     place: 0 */
+ * text's length is always large enough. */
 TealsettleRead tealsettle_mcs_read(const uint8_t *text, size_t text_length, uint8_t *out, size_t out_length);
+
+/* ---- What loads ---- */
+
+/* What a chip loads. */
+typedef struct {
+    uint32_t number; /* 0, or 1 */
+    size_t place;    /* of a chip that is stuck: the faulty word, or the chip's length where bytes ran out */
+    uint32_t stuck;  /* 1: the chip loads nothing, and the fields below are 0 */
+    uint32_t jumped; /* 0: without a jump (the golden image); 1: after one (an update image) */
+    size_t sync;     /* place of the last sync word found */
+    size_t end;      /* place after the last word */
+    size_t writes;   /* how many writes, those since the jump if there was one */
+} TealsettleBoot;
+
+/* What the FPGA loads from a chip of these bytes. */
+TealsettleBoot tealsettle_boot(uint32_t kind, const uint8_t *chip, size_t chip_length);
+
+/* One write to a configuration register. */
+typedef struct {
+    uint32_t number;          /* 0, or 1 */
+    size_t place;             /* 0 */
+    uint32_t found;           /* 1; or 0: there is no such write, and the fields below are 0 */
+    uint32_t register_number; /* of the register written: 0 to 31 */
+    uint32_t word;            /* the word written */
+    size_t word_place;        /* where on the chip the word stands */
+} TealsettleWrite;
+
+/* The write of index i, counted from 0, of what tealsettle_boot counts. A chip that is stuck has none. */
+TealsettleWrite tealsettle_write(uint32_t kind, const uint8_t *chip, size_t chip_length, size_t i);
+
+/* What an image loads by itself. */
+typedef struct {
+    uint32_t number; /* 0, or 1 (the kind), 4, 5 or 6 */
+    size_t place;    /* of the refusal */
+    size_t sync;     /* place of the sync word */
+    size_t end;      /* place after the last word */
+    size_t writes;   /* how many writes */
+} TealsettleImage;
+
+/* Whether an image is one that a chip can be given: it reads by itself to its end and does not jump. */
+TealsettleImage tealsettle_image_check(uint32_t kind, const uint8_t *image, size_t image_length);
+
+/* ---- A printer's first chip ---- */
+
+/* Whether a chip was built. */
+typedef struct {
+    uint32_t number; /* 0, or 1 to 6 or 19 */
+    size_t place;    /* of the refusal */
+} TealsettleBuild;
+
+/* Builds a chip with a golden image: `length` bytes at the front of `out`, whose other bytes stay as they
+ * were. It loads the golden image, whole, without a jump. */
+TealsettleBuild tealsettle_build(uint32_t kind, size_t length, size_t update, size_t area, const uint8_t *golden,
+                                 size_t golden_length, uint8_t *out, size_t out_length);
+
+/* ---- A run: updating a chip ----
+ *
+ *     start                        gives the first state, or refuses
+ *     order, carry it out, reply   again and again: each reply hands back the next state
+ *     finished                     the run has ended, with outcome 0; or 10 to 12 after a stop
+ *
+ * The state is all that a run is, and the caller keeps it. Each order is carried out once, and each reply
+ * is given the state handed back last. A refused reply changes nothing; the order need not be carried out
+ * again. The image is lent again at each order and each reply, and is the one that the run was started
+ * with, unaltered: so what a look must find is always the image's own bytes. After a power cut the state is
+ * lost and the printer loads a whole image all the same; an update begins again with a start, which may come
+ * at any time. */
+
+/* Where a run is. */
+typedef struct {
+    size_t length;       /* the layout: F, */
+    size_t update;       /* U */
+    size_t area;         /* and A */
+    size_t image_length; /* the image's length */
+    uint32_t phase;      /* 0 to 6; 7: ended */
+    size_t index;        /* of the order in its phase; 0 in phase 7 */
+    uint32_t outcome;    /* 0; in phase 7 after a stop its number, 10 to 12 */
+} TealsettleState;
+
+/* What starting a run came to. */
+typedef struct {
+    uint32_t number;       /* 0, or 1 to 6 */
+    size_t place;          /* of the refusal */
+    TealsettleState state; /* the first one: phase 0, index 0, outcome 0 */
+} TealsettleStart;
+
+/* Starts a run with an image. It writes nothing: the chip is not touched before the first order. */
+TealsettleStart tealsettle_start(uint32_t kind, size_t length, size_t update, size_t area, const uint8_t *image,
+                                 size_t image_length);
+
+/* The length of a run. */
+typedef struct {
+    uint32_t number; /* 0, or 1 to 4 */
+    size_t place;    /* 0 */
+    size_t orders;   /* how many there are in all */
+} TealsettleTotal;
+
+/* How many orders an uncut run has, with an image of so many bytes. */
+TealsettleTotal tealsettle_total(uint32_t kind, size_t length, size_t update, size_t area, size_t image_length);
+
+/* What is to be done with the chip: erase the segment of `length` bytes from `address` on, program as many
+ * with the front of `bytes`, or read as many. A program stays inside one page of 256 bytes. */
+typedef struct {
+    uint32_t number;    /* 0, or 7 or 8 */
+    size_t place;       /* 0 */
+    uint32_t operation; /* TEALSETTLE_ERASE, TEALSETTLE_PROGRAM or TEALSETTLE_LOOK; 0 for a refusal */
+    size_t address;     /* on the chip */
+    size_t length;      /* 4,096 for an erase, 1 to 256 for a program, 256 or 4 for a look */
+    uint8_t bytes[256]; /* those to program, then FF; all FF where nothing is programmed */
+} TealsettleOrder;
+
+/* The order that a state asks for. `state_image_length` is the state's own, and `image_length` that of the
+ * image lent: the state fits only if they are equal. */
+TealsettleOrder tealsettle_order(uint32_t kind, size_t length, size_t update, size_t area, size_t state_image_length,
+                                 uint32_t phase, size_t index, uint32_t outcome, const uint8_t *image,
+                                 size_t image_length);
+
+/* What a reply came to. */
+typedef struct {
+    uint32_t number;       /* 0; or refused, 7 to 9; or stopped, 10 to 12 */
+    size_t place;          /* of a stop: the first address that differs */
+    uint32_t stopped;      /* 1 after a stop */
+    TealsettleState state; /* the next one; after a stop phase 7; after a refusal the one that was given */
+} TealsettleReply;
+
+/* The reply to the order of a state: `said` is TEALSETTLE_DONE, with no bytes, after an erase or program, and
+ * TEALSETTLE_READ, with the bytes that the chip read, after a look. */
+TealsettleReply tealsettle_reply(uint32_t kind, size_t length, size_t update, size_t area, size_t state_image_length,
+                                 uint32_t phase, size_t index, uint32_t outcome, const uint8_t *image,
+                                 size_t image_length, uint32_t said, const uint8_t *bytes, size_t bytes_length);
+
+/* Whether a run goes on. */
+typedef struct {
+    uint32_t number;  /* 0, or 7 */
+    size_t place;     /* 0 */
+    uint32_t ended;   /* 0: the state asks for an order; 1: the run has ended */
+    uint32_t outcome; /* of a run that has ended: 0, or 10 to 12 after a stop */
+} TealsettleFinished;
+
+/* Whether a run has ended, and how. No image is lent. */
+TealsettleFinished tealsettle_finished(uint32_t kind, size_t length, size_t update, size_t area, size_t image_length,
+                                       uint32_t phase, size_t index, uint32_t outcome);
+
+/* ---- The bench: a run on a chip's bytes ---- */
+
+/* What a cut run came to. */
+typedef struct {
+    uint32_t number;       /* 0, or 1 to 6 or 13 */
+    size_t place;          /* of the refusal */
+    TealsettleState state; /* before the cut order; or phase 7 and outcome 0, where the run ends before the cut */
+} TealsettleBench;
+
+/* A run on the bytes of a chip, whose power is cut in the order after the first `k`. Those are obeyed in full;
+ * if the next is an erase or program, its span then holds the first damage bytes, and a look changes
+ * nothing. With `k` at or above the total the run ends. F is the chip's length. */
+TealsettleBench tealsettle_cut_run(uint32_t kind, uint8_t *chip, size_t chip_length, size_t update, size_t area,
+                                   const uint8_t *image, size_t image_length, size_t k, const uint8_t *damage,
+                                   size_t damage_length);
 
 #ifdef __cplusplus
 }

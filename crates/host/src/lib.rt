@@ -1,36 +1,10 @@
 // The functions that a printer's C host calls (include/tealsettle.h): numbers and byte slices in, a
-// plain struct out. A byte slice is a pointer and a length.
-ghost use mathlib.Core.Path.{_≡_};
-ghost use Rattle.mcs.specs.Answers.{readAnswer, readOutput};
-ghost use Rattle.host.specs.Results.{readResult};
-use mcs::reader;
-use mcs::reader::ReadAnswer;
+// plain struct out. A byte slice is a pointer and a length. Reading an image file (`text`), what a chip
+// or an image loads (`boot`), building a chip (`build`), updating one (`run`), and a run that is cut (`bench`).
 
-// A refusal's number and place, or 0, 0 and how many bytes were read.
-#[repr(C)]
-pub struct TealsettleRead {
-    pub number: u32,
-    pub place: usize,
-    pub length: usize,
-}
-
-// Reads MCS text into a buffer. A refusal leaves the buffer as it was.
-#[no_mangle]
-pub extern "C" fn tealsettle_mcs_read(text: &[u8], out: &mut [u8]) -> TealsettleRead
-    ensures answer { λ r. ⌜ r ≡ readResult (readAnswer (now (text .entry)) (now (out .entry))) ⌝ }
-    ensures output { λ r. ⌜ now (out .exit) ≡ readOutput (now (text .entry)) (now (out .entry)) ⌝ }
-{
-    let answer = reader::read(text, out);
-    match answer {
-        ReadAnswer::Read { length } => TealsettleRead {
-            number: 0,
-            place: 0,
-            length,
-        },
-        ReadAnswer::Refused { number, place } => TealsettleRead {
-            number,
-            place,
-            length: 0,
-        },
-    }
-}
+pub mod bench;
+pub mod boot;
+pub mod build;
+mod kind;
+pub mod run;
+pub mod text;

@@ -2,8 +2,8 @@
 use Rattle.host.specs.Results.{readResult}
 use mathlib.Core.Path.{refl, sym, _∙_}
 use borrow.Author.Needs.{needs}
-use Rattle.host.proofs.tealsettle_mcs_read.Statement.{statement}
-use Rattle.host.proofs.tealsettle_mcs_read.Tie as tie
+use Rattle.host.proofs.text.tealsettle_mcs_read.Statement.{statement}
+use Rattle.host.proofs.text.tealsettle_mcs_read.Tie as tie
 
 read-requires : tie.Need-read-requires
 read-requires c κs = search needs

@@ -1,0 +1,28 @@
+-- `tealsettle_image_check` meets its contract.
+use Rattle.host.specs.Results.{imageResult}
+use Rattle.packets.specs.Packet.{ask}
+use borrow.Author.Tests.{eq-eqb, ne-eqb}
+use mathlib.Core.Path.{ap, _∙_}
+use borrow.Author.Needs.{needs}
+use Rattle.host.proofs.boot.tealsettle_image_check.Statement.{statement}
+use Rattle.host.proofs.boot.tealsettle_image_check.Tie as tie
+
+image-result-requires : tie.Need-image-result-requires
+image-result-requires c κs = search needs
+
+returns : tie.Need-returns
+unfolding ask
+returns c = rw (ne-eqb _ _ (c .before .if1 .taken)) (c .image-result .ensures)
+
+check-requires : tie.Need-check-requires
+check-requires c κs = search needs
+
+image-result-requires-2 : tie.Need-image-result-requires-2
+image-result-requires-2 c κs = search needs
+
+returns-2 : tie.Need-returns-2
+unfolding ask
+returns-2 c = rw (eq-eqb _ _ (c .before .before .if1 .left)) (c .image-result2 .ensures ∙ ap imageResult (c .before .check .ensures))
+
+pub tealsettle-image-check-spec : {M : Type 1} → statement M
+tealsettle-image-check-spec = tie.close (tie.spec image-result-requires returns check-requires image-result-requires-2 returns-2)

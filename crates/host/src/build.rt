@@ -1,0 +1,49 @@
+// The first chip of a printer.
+ghost use mathlib.Core.Path.{_≡_};
+ghost use Rattle.chip.specs.Answers.{layoutOf};
+ghost use Rattle.host.specs.Results.{buildResult, buildOf, buildOutputOf};
+use crate::kind::SPI;
+use chip::builder;
+use chip::builder::BuildAnswer;
+use chip::kind::Spi;
+
+// A refusal's number and place, or 0 and 0.
+#[repr(C)]
+pub struct TealsettleBuild {
+    pub number: u32,
+    pub place: usize,
+}
+
+fn build_result(answer: BuildAnswer) -> TealsettleBuild
+    ensures { λ r. ⌜ r ≡ buildResult answer ⌝ }
+{
+    match answer {
+        BuildAnswer::Built => TealsettleBuild {
+            number: 0,
+            place: 0,
+        },
+        BuildAnswer::Refused { number, place } => TealsettleBuild { number, place },
+    }
+}
+
+// Builds a chip at the front of a buffer. A refusal leaves the buffer as it was.
+#[no_mangle]
+pub extern "C" fn tealsettle_build(
+    kind: u32,
+    length: usize,
+    update: usize,
+    area: usize,
+    golden: &[u8],
+    out: &mut [u8],
+) -> TealsettleBuild
+    ensures answer { λ r. ⌜ r ≡ buildOf kind (layoutOf length update area) (now (golden .entry)) (now (out .entry)) ⌝ }
+    ensures output { λ r. ⌜ now (out .exit) ≡ buildOutputOf kind (layoutOf length update area) (now (golden .entry)) (now (out .entry)) ⌝ }
+{
+    if kind != SPI {
+        return build_result(BuildAnswer::Refused {
+            number: 1,
+            place: 0,
+        });
+    }
+    build_result(builder::build(Spi::layout(length, update, area), golden, out))
+}
