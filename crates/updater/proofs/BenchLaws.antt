@@ -443,14 +443,6 @@ module _ (state : State) (image : List ℕ) (fit : fits state (length image) ≡
       ∙ asked-of (state .layout) image chip damage (first-fits (state .layout) (length image) numbers-at) long (state .phase) (running-says state (length image) fit r .0) (state .index) (index-at r)
       ∙ ap (λ (x : Order). asksOf (operationOf x) chip damage) (sym o)
 
-  -- and nothing once the run has ended: no order is left.
-  pub none-left : running state ≡ false → drop (position state) (orders spi (state .layout) image) ≡ []
-  none-left r =
-      let n = fits-says state (length image) fit .same in
-      let l = orders-length spi (state .layout) image in
-      let p : position state ≡ total (state .layout) (length image) = position-ended state (length image) fit r ∙ ap (total (state .layout)) n in
-      drop-of-length-le (orders spi (state .layout) image) {i = position state} (omega arith)
-
   -- The code does what it asks for,
   pub current-done : running state ≡ true → (chip : List ℕ) → state .layout .length ≡ length chip → (operation : Operation) → operationOf (currentOrder spi state image) ≡ operation →
       doneBy operation (orderBytes (currentOrder spi state image)) chip ≡ obeyed (currentOrder spi state image) chip

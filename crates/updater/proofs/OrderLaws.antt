@@ -2,11 +2,11 @@
 use Prim.Native.Nat.{ℕ, zero, suc, _+_, _-_, _*_, _<_, _≤_}
 use mathlib.Core.Path.{_≡_, refl, sym, ap, _∙_}
 use mathlib.Core.Bool.{Bool, true, false}
-use mathlib.Core.List.{List, _∷_, _++_}
+use mathlib.Core.List.{List, [], _∷_, _++_}
 use native.Mathlib.Omega.{arith}
 use borrow.Author.Tests.{ltb-true, ltb-false}
 use lib.Dec.{ltb}
-use lib.ListN.{length, getD, drop, length-append, getD-replicate, List·getD-append, List·getD-eq-default}
+use lib.ListN.{length, getD, drop, length-append, getD-replicate, List·getD-append, List·getD-eq-default, drop-of-length-le}
 use lib.Seq.{getD-append-add, getD-take, getD-drop, drop-cons}
 use Rattle.chip.specs.Layout.{page}
 use Rattle.chip.specs.Flash.{erased}
@@ -16,7 +16,7 @@ use Rattle.chip.proofs.Laws.{getD-any, erased-length}
 use Rattle.updater.specs.Run.{count, before, total, position, running, fits}
 use Rattle.updater.specs.Orders.{Order, erase, filled, pageOf, orderOf, inPhase, ordersBefore, orders, currentOrder}
 use Rattle.updater.specs.declared.run.State.{State}
-use Rattle.updater.proofs.RunLaws.{fits-says, running-says, before-later, position-running}
+use Rattle.updater.proofs.RunLaws.{fits-says, running-says, before-later, position-running, position-ended}
 
 -- The orders of one phase.
 phase-length : (order : ℕ → Order) (i more : ℕ) → length (inPhase order i more) ≡ more
@@ -88,6 +88,14 @@ orders-left kind state image e r =
     let q : suc (position state) ≡ position state + 1 = omega arith in
     drop-cons (orders kind (state .layout) image) (position state) (erase 0 0) (omega arith)
     ∙ ap (λ (m : ℕ). currentOrder kind state image ∷ drop m (orders kind (state .layout) image)) q
+
+-- An ended run has none left.
+pub orders-ended : (kind : Kind) (state : State) (image : List ℕ) → fits state (length image) ≡ true → running state ≡ false → drop (position state) (orders kind (state .layout) image) ≡ []
+orders-ended kind state image e r =
+    let n : state .length ≡ length image = fits-says state (length image) e .same in
+    let l : length (orders kind (state .layout) image) ≡ total (state .layout) (state .length) = orders-length kind (state .layout) image ∙ ap (total (state .layout)) (sym n) in
+    let p = position-ended state (length image) e r in
+    drop-of-length-le (orders kind (state .layout) image) {i = position state} (omega arith)
 
 -- Bytes, then FF: byte k, and the same of an image's page.
 pub filled-at : (size : ℕ) (bytes : List ℕ) (k : ℕ) → k < size → getD (filled size bytes) k 0 ≡ getD bytes k 0xFF

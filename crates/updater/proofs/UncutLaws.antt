@@ -9,7 +9,7 @@ use native.Mathlib.Omega.{arith}
 use native.Mathlib.Nat.{zero-add}
 use borrow.Author.Tests.{ltb-false, eqb-false}
 use lib.Dec.{eqb}
-use lib.ListN.{length, drop, take, drop-of-length-le}
+use lib.ListN.{length, drop, take}
 use Rattle.chip.specs.Kind.{Kind, LoadsAlone, Lawful}
 use Rattle.chip.specs.declared.kind.Layout.{Layout}
 use Rattle.updater.specs.Run.{byPhase, count, before, total, position, first, after, ended, running, fits}
@@ -26,7 +26,7 @@ use Rattle.updater.specs.declared.run.StartAnswer.the-variants.{Started}
 use Rattle.updater.specs.declared.run.ReplyAnswer.{ReplyAnswer}
 use Rattle.updater.specs.declared.run.ReplyAnswer.the-variants.{Next}
 use Rattle.updater.proofs.RunLaws.{Numbers, running-says, after-index, after-phase, last-or-not, after-fits, after-position, position-running, position-ended, first-fits}
-use Rattle.updater.proofs.OrderLaws.{orders-length, current-order, orders-left}
+use Rattle.updater.proofs.OrderLaws.{current-order, orders-left, orders-ended}
 use Rattle.updater.proofs.ReplyLaws.{starts as start-accepted, moves}
 use Rattle.updater.proofs.ObeyLaws.{Obeys}
 use Rattle.updater.proofs.BenchLaws.{order-within, damage-may}
@@ -117,15 +117,9 @@ module _ (kind : Kind) (lawful : Lawful kind) (update : ℕ) (layout : Layout) (
       (subst (λ (j : ℕ). Reached 7 j chip last → Ends (world chip (at 7 j) false looks ordered last) []) (sym z) (finished chip looks ordered last))
       reached
 
-  none-left : (phase i : ℕ) → fits (at phase i) (length image) ≡ true → running (at phase i) ≡ false → drop (position (at phase i)) (orders kind layout image) ≡ []
-  none-left phase i e r =
-      let l = orders-length kind layout image in
-      let p = position-ended (at phase i) (length image) e r in
-      drop-of-length-le (orders kind layout image) {i = position (at phase i)} (omega arith)
-
   no-events : (phase i : ℕ) (chip : List ℕ) → fits (at phase i) (length image) ≡ true → running (at phase i) ≡ false → eventsFrom (position (at phase i)) chip ≡ []
   unfolding obeying
-  no-events phase i chip e r = ap (λ (o : List Order). obeying image o chip) (none-left phase i e r)
+  no-events phase i chip e r = ap (λ (o : List Order). obeying image o chip) (orders-ended kind (at phase i) image e r)
 
   -- Before its end the current order advances the chip, and so the run comes further.
   module _ (phase i : ℕ) (chip : List ℕ) (last : Option (List ℕ)) (reached : Reached phase i chip last) (runs : running (at phase i) ≡ true) where
@@ -311,7 +305,7 @@ module _ (kind : Kind) (lawful : Lawful kind) (update : ℕ) (layout : Layout) (
       where
         go : (b : Bool) → running (at phase i) ≡ b → CutsShort 0 phase i chip last (drop (position (at phase i)) (orders kind layout image))
         go true r = subst (CutsShort 0 phase i chip last) (sym (orders-left kind (at phase i) image (reached .fitted) r)) (cut-here phase i chip last reached r (drop (position (at phase i) + 1) (orders kind layout image)))
-        go false r = subst (CutsShort 0 phase i chip last) (sym (none-left phase i (reached .fitted) r)) (cut-none 0 phase i chip last)
+        go false r = subst (CutsShort 0 phase i chip last) (sym (orders-ended kind (at phase i) image (reached .fitted) r)) (cut-none 0 phase i chip last)
     cuts-short (suc k) phase i chip last reached = go (running (at phase i)) refl (λ chip last p j r. cuts-short k p j chip last r)
       where
         go : (b : Bool) → running (at phase i) ≡ b →
@@ -321,7 +315,7 @@ module _ (kind : Kind) (lawful : Lawful kind) (update : ℕ) (layout : Layout) (
             subst (CutsShort (suc k) phase i chip last) (sym (orders-left kind (at phase i) image (reached .fitted) r))
             (cut-later phase i chip last reached r (drop (position (at phase i) + 1) (orders kind layout image)) k
             (λ p j reached e. subst (λ (n : ℕ). CutsShort k p j (obeyed (order phase i) chip) (orderedImage (eqb phase 5) image last) (drop n (orders kind layout image))) e (rest (obeyed (order phase i) chip) (orderedImage (eqb phase 5) image last) p j reached)))
-        go false r rest = subst (CutsShort (suc k) phase i chip last) (sym (none-left phase i (reached .fitted) r)) (cut-none (suc k) phase i chip last)
+        go false r rest = subst (CutsShort (suc k) phase i chip last) (sym (orders-ended kind (at phase i) image (reached .fitted) r)) (cut-none (suc k) phase i chip last)
 
     -- THE RUN THAT IS CUT.
     pub cut-run : (w : World) (k : ℕ) → layout .length ≡ length (w .chip) → layout .update ≡ update →

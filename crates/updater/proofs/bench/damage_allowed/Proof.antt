@@ -15,7 +15,8 @@ use Rattle.updater.specs.Bench.{spanAllows, cutAllowed, chipAfter}
 use Rattle.updater.specs.declared.run.State.{State}
 use Rattle.updater.specs.declared.run.Operation.{Operation}
 use Rattle.updater.specs.declared.run.Operation.the-variants.{Erase}
-use Rattle.updater.proofs.BenchLaws.{asksOf, LowIsOn, erase-span, none-left, current-within, current-low, current-asked}
+use Rattle.updater.proofs.OrderLaws.{orders-ended}
+use Rattle.updater.proofs.BenchLaws.{asksOf, LowIsOn, erase-span, current-within, current-low, current-asked}
 use Rattle.updater.proofs.bench.damage_allowed.Statement.{statement}
 use Rattle.updater.proofs.bench.damage_allowed.Tie as tie
 
@@ -23,7 +24,7 @@ returns : tie.Need-returns
 unfolding cutAllowed
 returns c =
     let a = c .before .before .before .before .before .args in
-    sym (ap (λ (l : List Order). cutAllowed l (chipAfter spi (a .state .layout) (a .image .now) (position (a .state)) (a .chip .now)) (a .damage .now)) (none-left (a .state) (a .image .now) (c .before .before .before .before .before .pre .0) (le-ltb (a .state .phase) 7 (c .if1 .taken))))
+    sym (ap (λ (l : List Order). cutAllowed l (chipAfter spi (a .state .layout) (a .image .now) (position (a .state)) (a .chip .now)) (a .damage .now)) (orders-ended spi (a .state) (a .image .now) (c .before .before .before .before .before .pre .0) (le-ltb (a .state .phase) 7 (c .if1 .taken))))
 
 current-operation-requires : tie.Need-current-operation-requires
 current-operation-requires c κs = (c .before .before .before .before .before .pre .0, lt-ltb (c .before .before .before .before .before .args .state .phase) 7 (omega arith))

@@ -5,9 +5,11 @@ use native.Mathlib.Omega.{arith}
 use borrow.Author.Needs.{needs}
 use borrow.Author.Tests.{lt-ltb, le-ltb}
 use lib.Seq.{length-take-le}
+use Rattle.chip.specs.Kind.{spi}
 use Rattle.updater.specs.Orders.{Order}
 use Rattle.updater.specs.Bench.{cutIn}
-use Rattle.updater.proofs.BenchLaws.{leftBy, Enough, none-left, current-left, current-enough}
+use Rattle.updater.proofs.OrderLaws.{orders-ended}
+use Rattle.updater.proofs.BenchLaws.{leftBy, Enough, current-left, current-enough}
 use Rattle.updater.proofs.bench.write_damage.Statement.{statement}
 use Rattle.updater.proofs.bench.write_damage.Tie as tie
 
@@ -15,7 +17,7 @@ returns : tie.Need-returns
 unfolding cutIn
 returns c =
     let a = c .before .before .before .before .before .args in
-    sym (ap (λ (l : List Order). cutIn l (a .chip .now) (a .damage .now)) (none-left (a .state) (a .image .now) (c .before .before .before .before .before .pre .0) (le-ltb (a .state .phase) 7 (c .if1 .taken))))
+    sym (ap (λ (l : List Order). cutIn l (a .chip .now) (a .damage .now)) (orders-ended spi (a .state) (a .image .now) (c .before .before .before .before .before .pre .0) (le-ltb (a .state .phase) 7 (c .if1 .taken))))
 
 current-operation-requires : tie.Need-current-operation-requires
 current-operation-requires c κs = (c .before .before .before .before .before .pre .0, lt-ltb (c .before .before .before .before .before .args .state .phase) 7 (omega arith))
