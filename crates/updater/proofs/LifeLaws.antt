@@ -21,7 +21,7 @@ use Rattle.updater.specs.Orders.{Order, erase, program, look, filled, pa
 use Rattle.updater.specs.Effects.{obeyedSpan, leaves}
 use Rattle.updater.specs.Answers.{startAnswer, stopOf, replyAnswer}
 use Rattle.updater.specs.OrderList.{Replies, Moved}
-use Rattle.updater.specs.Life.{Run, World, found, starts, carries, replies, cuts, Event, afterStart, agrees, lookSeen, orderedImage, carryOut, afterReply, orderOfRun, onRun, next, MayStart, MayBeLeft, MayOrder, True, Honest, MayReply, May, Valid, life, isOn, Standing}
+use Rattle.updater.specs.Life.{Run, World, found, starts, carries, replies, cuts, Event, afterStart, agrees, lookSeen, orderedImage, carryOut, afterReply, orderOfRun, onRun, next, MayStart, MayBeLeft, MayOrder, TrueRead, Honest, MayReply, May, Valid, life, isOn, Standing}
 use Rattle.updater.specs.declared.run.State.{State}
 use Rattle.updater.specs.declared.run.StartAnswer.{StartAnswer}
 use Rattle.updater.specs.declared.run.StartAnswer.the-variants.{Started, Refused as StartRefused}
@@ -421,10 +421,10 @@ module _ (kind : Kind) (lawful : Lawful kind) (update : ℕ) (area : List ℕ) w
       stage-of phase p = subst (λ (q : ℕ). Stage q run w) p (holds .stage)
 
       was-read : (place : ℕ) (must : List ℕ) → orderOfRun kind run ≡ look place must → span (w .chip) place (length must) ≡ must
-      unfolding Replies True
+      unfolding Replies TrueRead
       was-read place must o =
           let r : (said ≡ 1) × (bytes ≡ must) = subst (λ (x : Order). Replies x said bytes) o (moves .replied) in
-          let t : bytes ≡ span (w .chip) place (length must) = subst (λ (x : Order). True x (w .chip) bytes) o (honest .reads) in
+          let t : bytes ≡ span (w .chip) place (length must) = subst (λ (x : Order). TrueRead x (w .chip) bytes) o (honest .reads) in
           sym t ∙ r .1
 
       order-of : (phase : ℕ) → s .phase ≡ phase → orderOfRun kind run ≡ orderOf kind (s .layout) (run .image) phase (s .index)

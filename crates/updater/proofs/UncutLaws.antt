@@ -19,7 +19,7 @@ use Rattle.updater.specs.Answers.{startAnswer, replyAnswer}
 use Rattle.updater.specs.OrderList.{spanOf}
 use Rattle.updater.specs.Bench.{cutAllowed, cutIn}
 use Rattle.updater.specs.BenchLife.{cutEvents, benchEvents}
-use Rattle.updater.specs.Life.{Run, World, Event, starts, carries, replies, afterStart, afterCut, orderedImage, carryOut, afterReply, onRun, next, MayStart, True, MayReply, May, Valid, life, isOn, saidTo, readBy, obeying, uncut, Bytes}
+use Rattle.updater.specs.Life.{Run, World, Event, starts, carries, replies, afterStart, afterCut, orderedImage, carryOut, afterReply, onRun, next, MayStart, TrueRead, MayReply, May, Valid, life, isOn, saidTo, readBy, obeying, uncut, Bytes}
 use Rattle.updater.specs.declared.run.State.{State}
 use Rattle.updater.specs.declared.run.StartAnswer.{StartAnswer}
 use Rattle.updater.specs.declared.run.StartAnswer.the-variants.{Started}
@@ -50,8 +50,8 @@ pub record Finished (kind : Kind) (layout : Layout) (image : List ℕ) (w : Worl
   pub ordered : w .image ≡ some image
 
 -- What a look reads is true.
-reads-true : (order : Order) (chip : List ℕ) → True order chip (readBy order chip)
-unfolding True readBy
+reads-true : (order : Order) (chip : List ℕ) → TrueRead order chip (readBy order chip)
+unfolding TrueRead readBy
 reads-true (erase place count) chip = tt
 reads-true (program place bytes) chip = tt
 reads-true (look place bytes) chip = refl

@@ -128,16 +128,16 @@ pub record MayOrder (kind : Kind) (left : List ℕ) (run : Run) (w : World) : Ty
   pub leaves : MayBeLeft (orderOfRun kind run) (w .chip) left
 
 -- Reads are true: the reply to a look has the bytes that stand there. (That the reply to an erase or program says done is question 8.)
-unfoldable pub True : Order → List ℕ → List ℕ → Type 0
-True (erase place count) chip bytes = Unit {0}
-True (program place contents) chip bytes = Unit {0}
-True (look place must) chip bytes = bytes ≡ span chip place (length must)
+unfoldable pub TrueRead : Order → List ℕ → List ℕ → Type 0
+TrueRead (erase place count) chip bytes = Unit {0}
+TrueRead (program place contents) chip bytes = Unit {0}
+TrueRead (look place must) chip bytes = bytes ≡ span chip place (length must)
 
 -- A reply that is not refused: its order has been carried out, the image is the run's, and it says done or the bytes read.
 pub record Honest (kind : Kind) (image bytes : List ℕ) (run : Run) (w : World) : Type 0 where
   pub carried : run .carried ≡ true
   pub same : image ≡ run .image
-  pub reads : True (orderOfRun kind run) (w .chip) bytes
+  pub reads : TrueRead (orderOfRun kind run) (w .chip) bytes
 
 -- A refused reply (stops 10 to 12 are not) may carry anything and may come before its order.
 unfoldable pub MayReply : ReplyAnswer → Kind → List ℕ → List ℕ → Run → World → Type 0

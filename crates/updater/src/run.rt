@@ -87,7 +87,7 @@ pub enum ReplyAnswer {
 }
 
 // What comparing came to: all bytes agree, or the first address at which they do not.
-pub enum Comparison {
+enum Comparison {
     Same,
     Differs { address: usize },
 }
