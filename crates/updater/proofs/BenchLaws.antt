@@ -24,7 +24,7 @@ use Rattle.updater.specs.Effects.{placeOf, obeyedSpan, leaves, obeyed, o
 use Rattle.updater.specs.Answers.{askRun, startAnswer}
 use Rattle.updater.specs.OrderList.{spanOf}
 use Rattle.updater.specs.Bench.{spanAllows, damageAllowed, cutAllowed, cutIn, chipAfter, stateAfter, stateAt}
-use Rattle.updater.specs.Life.{MayBeLeft}
+use Rattle.updater.specs.Life.{MayBeLeft, Bytes}
 use Rattle.updater.specs.declared.run.State.{State}
 use Rattle.updater.specs.declared.run.StartAnswer.{StartAnswer}
 use Rattle.updater.specs.declared.run.StartAnswer.the-variants.{Started, Refused as StartRefused}
@@ -363,7 +363,7 @@ damage-enough (program place bytes) chip damage h e = let n = span-size (program
 damage-enough (look place bytes) chip damage h e = tt
 
 -- What question 10 allows a cut order to leave, a life allows.
-pub damage-may : (o : Order) (chip damage : List ℕ) → placeOf o + spanOf o ≤ length chip → ((i : ℕ) → i < length damage → getD damage i 0 < 256) → damageAllowed o chip damage ≡ true →
+pub damage-may : (o : Order) (chip damage : List ℕ) → placeOf o + spanOf o ≤ length chip → Bytes damage → damageAllowed o chip damage ≡ true →
     MayBeLeft o chip (take (length (obeyedSpan o chip)) damage)
 unfolding placeOf spanOf damageAllowed MayBeLeft
 damage-may (erase place count) chip damage h bytes e = let n = span-size (erase place count) chip h in allows-may chip place (obeyedSpan (erase place count) chip) damage (omega arith) bytes e

@@ -16,6 +16,7 @@ use Rattle.packets.proofs.Laws.{asked, false-true}
 use Rattle.chip.specs.Layout.{segment}
 use Rattle.chip.specs.Flash.{span, bit, Mixed, MayLeave}
 use Rattle.chip.proofs.Laws.{span-length, same-bits, bit-most, bit-and}
+use Rattle.updater.specs.Life.{Bytes}
 use Rattle.updater.specs.Bench.{mixture, spanAllows}
 use Rattle.updater.proofs.ObeyLaws.{below-or-not}
 
@@ -165,7 +166,7 @@ allows-swap place old ordered damage near e =
     (below-or-not (length damage) (length ordered))
 
 -- What it allows a span to hold, a life allows a cut order to leave there.
-pub allows-may : (chip : List ℕ) (place : ℕ) (obeyed damage : List ℕ) → place + length obeyed ≤ length chip → ((i : ℕ) → i < length damage → getD damage i 0 < 256) →
+pub allows-may : (chip : List ℕ) (place : ℕ) (obeyed damage : List ℕ) → place + length obeyed ≤ length chip → Bytes damage →
     spanAllows place (span chip place (length obeyed)) obeyed damage ≡ true → MayLeave chip place obeyed (take (length obeyed) damage)
 allows-may chip place obeyed damage fits bytes e = record {
   fills = filled;

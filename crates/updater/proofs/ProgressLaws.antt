@@ -15,9 +15,11 @@ use Rattle.chip.proofs.Laws.{getD-any, span-at, span-length, erased-length, upd
 use Rattle.updater.specs.Run.{byPhase, pages, count}
 use Rattle.updater.specs.Orders.{erase, program, filled, pageOf, orderOf}
 use Rattle.updater.specs.Effects.{leaves, obeyed}
+use Rattle.updater.specs.Life.{Bytes}
 use Rattle.updater.proofs.RunLaws.{phases, Numbers, numbers-image, area-segments, image-pages, area-pages}
 use Rattle.updater.proofs.OrderLaws.{filled-at, filled-length, page-at}
 use Rattle.updater.proofs.CallLaws.{page-length}
+use Rattle.updater.proofs.BenchLaws.{Blank}
 use Rattle.updater.proofs.ObeyLaws.{Obeys, below-or-not, erased-at, erase-obeys, erase-before, erase-inside, program-obeys, program-before, program-inside, program-after, look-obeys}
 
 -- HOW FAR A CHIP IS when the orders before a phase's index have been obeyed:
@@ -26,9 +28,6 @@ use Rattle.updater.proofs.ObeyLaws.{Obeys, below-or-not, erased-at, era
 --   3       the image's pages before the index stand in the update area, FF after them
 --   4       the image, then FF to the end
 --   6, 7    the switch is ON
-abbrev Blank : List ℕ → Type 0
-Blank chip = (i : ℕ) → i < segment → getD chip i 0 ≡ 0xFF
-
 abbrev Cleared : Layout → List ℕ → ℕ → Type 0
 Cleared layout chip upto = (j : ℕ) → j < upto → getD chip (layout .update + j) 0 ≡ 0xFF
 
@@ -61,7 +60,7 @@ pub record Advances (kind : Kind) (layout : Layout) (image : List ℕ) (phase i 
   pub further : i + 1 < count layout (length image) phase → Progress kind layout image phase (i + 1) (obeyed (orderOf kind layout image phase i) chip)
   pub last : count layout (length image) phase ≤ i + 1 → Progress kind layout image (phase + 1) 0 (obeyed (orderOf kind layout image phase i) chip)
 
-module _ (kind : Kind) (lawful : Lawful kind) (layout : Layout) (image : List ℕ) (numbers : Numbers layout (length image)) (bytes : (i : ℕ) → i < length image → getD image i 0 < 256) where
+module _ (kind : Kind) (lawful : Lawful kind) (layout : Layout) (image : List ℕ) (numbers : Numbers layout (length image)) (bytes : Bytes image) where
   area : (layout .area % 4096 ≡ 0) × (4096 ≤ layout .area) × (layout .update + layout .area ≤ layout .length)
   area = area-allowed (layout .length) (layout .update) (layout .area) (numbers .spans)
 
