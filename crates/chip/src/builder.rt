@@ -59,7 +59,7 @@ fn write_chip(layout: Layout, golden: &[u8], out: &mut [u8])
     write(out, Spi::GOLDEN, golden);
 }
 
-// Questions 4 to 6 and 19, for a layout that is allowed.
+// Questions 4, 5 and 13, for a layout that is allowed.
 fn build_allowed(layout: Layout, golden: &[u8], out: &mut [u8]) -> BuildAnswer
     requires { ⌜ layoutAnswer layout ≡ Allowed ⌝ }
     ensures answer { λ r. ⌜ r ≡ goldenAnswer layout (now (golden .entry)) (length (now (out .entry))) ⌝ }

@@ -1,4 +1,4 @@
-// Cases of a run's start: questions 1 to 6, and the first state.
+// Cases of a run's start: questions 1 to 5, and the first state.
 use crate::sample::at;
 use crate::sample::same;
 use crate::sample::sample;

@@ -79,7 +79,7 @@ some-differs place (byte ∷ bytes) (m ∷ must) address e = go (eqb byte m) ref
           before = λ i h. absurd (omega arith);
         }
 
--- A start that is accepted: questions 1 to 6, and the first state.
+-- A start that is accepted: questions 1 to 5, and the first state.
 pub record Opened (kind : Kind) (layout : Layout) (image : List ℕ) (state : State) : Type 0 where
   pub numbers : Numbers layout (length image)
   pub alone : LoadsAlone kind image

@@ -27,14 +27,14 @@ use Rattle.updater.specs.declared.run.Comparison.the-variants.{Same, Dif
 use Rattle.updater.specs.declared.run.ReplyAnswer.{ReplyAnswer}
 use Rattle.updater.specs.declared.run.ReplyAnswer.the-variants.{Next, Stopped, Refused}
 
--- Questions 4, for the area A, 5 and 6, and what is asked next. The image is read as the chip's kind reads it.
+-- Questions 1 to 3, 4 for the area A, and 5, and what is asked next. The image is read as the chip's kind reads it.
 unfoldable pub askRun {ℓ} : {A : Type ℓ} → Kind → (ℕ → ℕ → A) → Layout → List ℕ → A → A
 askRun kind refused layout image rest =
     askLayout refused layout
     (ask (imageLength (layout .area) (length image)) (refused 4 0)
     (aloneCase refused (λ sync end writes. rest) (kind .alone image)))
 
--- `run::start`: questions 1 to 6, then the first state
+-- `run::start`: questions 1 to 5 (refusals 1 to 6), then the first state
 unfoldable pub startAnswer : Kind → Layout → List ℕ → StartAnswer
 startAnswer kind layout image = askRun kind StartRefused layout image (Started (first layout (length image)))
 

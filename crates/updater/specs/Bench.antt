@@ -63,7 +63,7 @@ stateAfter (suc more) state = stateAfter more (after state)
 abbrev pub stateAt : Layout → List ℕ → ℕ → State
 stateAt layout image k = stateAfter (min k (total layout (length image))) (first layout (length image))
 
--- `bench::cut_run`: questions 1 to 6, then 10; the run's state before order k + 1, and the chip as it then stands. F is the length of the chip's bytes.
+-- `bench::cut_run`: questions 1 to 5, then 10; the run's state before order k + 1, and the chip as it then stands. F is the length of the chip's bytes.
 unfoldable pub benchAnswer : Kind → Layout → List ℕ → List ℕ → ℕ → List ℕ → BenchAnswer
 benchAnswer kind layout chip image k damage =
     askRun kind Refused layout image

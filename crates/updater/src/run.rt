@@ -165,7 +165,7 @@ fn fits_image(state: State, lent: usize) -> bool
     }
 }
 
-// Starts a run: questions 1 to 6, then its first state.
+// Starts a run: questions 1 to 5, then its first state.
 pub fn start(layout: Layout, image: &[u8]) -> StartAnswer
     ensures { λ r. ⌜ r ≡ startAnswer spi layout (now (image .entry)) ⌝ }
 {
