@@ -15,4 +15,5 @@ fn main() {
     say(b"switch", packet::switch_cases());
     say(b"jump", packet::jump_cases());
     say(b"listing", packet::listing_cases());
+    say(b"reader", packet::reader_cases());
 }

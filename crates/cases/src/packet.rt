@@ -1,4 +1,5 @@
 // Cases on which readings of the packet rules differ.
+use imagereader::first_write;
 use packets::chip as loader;
 use packets::chip::BootAnswer;
 use packets::image;
@@ -709,4 +710,61 @@ fn seven_writes(chip: &[u8]) -> Tally {
     t = writes(t, chip, 6, 4, DESYNC, 12336);
     t = no_write(t, chip, 7);
     lists(t, chip, 7)
+}
+
+// What a reader made at an image of at most 16 words gives first.
+fn begins(t: Tally, words: &[u32], register: u32, word: u32, place: usize) -> Tally {
+    if 16 < words.len() {
+        return counted(t, false);
+    }
+    let mut bytes = [0u8; 64];
+    put(&mut bytes, 0, words);
+    let answer = first_write(front(&bytes, 4 * words.len()));
+    let WriteAnswer::Found(w) = answer else {
+        return counted(t, false);
+    };
+    counted(
+        t,
+        w.register == register && w.word == word && w.place == place,
+    )
+}
+
+fn begins_refused(t: Tally, words: &[u32], number: u32, place: usize) -> Tally {
+    if 16 < words.len() {
+        return counted(t, false);
+    }
+    let mut bytes = [0u8; 64];
+    put(&mut bytes, 0, words);
+    let answer = first_write(front(&bytes, 4 * words.len()));
+    let WriteAnswer::Refused {
+        number: n,
+        place: p,
+    } = answer
+    else {
+        return counted(t, false);
+    };
+    counted(t, n == number && p == place)
+}
+
+// A reader's first write, and the refusals of the image check.
+pub(crate) fn reader_cases() -> Tally {
+    let mut t = begins(none(), &[SYNC, CMD_1, DESYNC], 4, DESYNC, 8);
+    t = begins(
+        t,
+        &[NOP, SYNC, NOP, 0x3000_2003, 1, 2, 3, CMD_1, DESYNC],
+        1,
+        1,
+        16,
+    );
+    t = begins(
+        t,
+        &[SYNC, 0x3000_4000, 0x5000_0002, 8, 9, CMD_1, DESYNC],
+        2,
+        8,
+        12,
+    );
+    t = begins_refused(t, &[], 4, 0);
+    t = begins_refused(t, &[NOP, NOP], 5, 8);
+    t = begins_refused(t, &[SYNC, 0x3000_2003, 1, 2], 5, 16);
+    begins_refused(t, &[SYNC, WBSTAR_1, 8, CMD_1, IPROG], 6, 16)
 }

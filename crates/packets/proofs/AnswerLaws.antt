@@ -12,13 +12,14 @@ use native.Mathlib.Nat.{zero-add}
 use Rattle.packets.specs.Packet.{ask}
 use Rattle.packets.specs.Reading.{modeOf, traceFrom, finishFrom, writesFrom, readFrom, readChip, readAlone, listed, contents, LoadsWhole, nthWrite, contentOf}
 use Rattle.packets.specs.Cursor.{cursorAt, rest, stepOf, nthStep}
-use Rattle.packets.specs.Answers.{lengthAllowed, imageLength, longestImage, bootCase, bootAnswer, aloneCase, askImage, cursorOf, chipWrite, imageAnswer, imageWrite}
+use Rattle.packets.specs.Answers.{lengthAllowed, imageLength, longestImage, bootCase, bootAnswer, aloneCase, askImage, cursorOf, chipWrite, imageAnswer, imageWrite, imageListing}
 use Rattle.packets.specs.declared.reader.Outcome.{Outcome}
 use Rattle.packets.specs.declared.reader.Outcome.the-variants.{Loaded, Iprog, Stuck}
 use Rattle.packets.specs.declared.chip.BootAnswer.the-variants.{Loaded as Boots}
 use Rattle.packets.specs.declared.walk.Finish.the-variants.{Ended}
 use Rattle.packets.specs.declared.writes.Write.{Write}
 use Rattle.packets.specs.declared.writes.WriteAnswer.the-variants.{Refused as WriteRefused}
+use Rattle.packets.specs.declared.writes.Listing.the-variants.{Open, Refused as ListingRefused}
 use Rattle.packets.specs.declared.image.ImageAnswer.{ImageAnswer}
 use Rattle.packets.specs.declared.image.ImageAnswer.the-variants.{Accepted, Refused}
 use Rattle.packets.proofs.ReadingLaws.{counted, Proper, proper, alone-parts}
@@ -64,6 +65,15 @@ by-answer refused accepted longest image = go (imageLength longest (length image
     go : (b : Bool) (o : Outcome) → onAnswer refused accepted (ask b (Refused 4 0) (aloneCase Refused Accepted o)) ≡ ask b (refused 4 0) (aloneCase refused accepted o)
     go true o = case o
     go false o = refl
+
+-- An image's writes, and the cursor before them, go by its answer.
+pub write-by-answer : (image : List ℕ) (k : ℕ) → onAnswer WriteRefused (λ sync end writes. nthWrite (writesFrom image (sync + 4)) k) (imageAnswer image) ≡ imageWrite image k
+unfolding imageAnswer imageWrite
+write-by-answer image k = by-answer WriteRefused (λ sync end writes. nthWrite (writesFrom image (sync + 4)) k) longestImage image
+
+pub listing-by-answer : (image : List ℕ) → onAnswer ListingRefused (λ sync end writes. Open (cursorAt (sync + 4) writes)) (imageAnswer image) ≡ imageListing image
+unfolding imageAnswer imageListing
+listing-by-answer image = by-answer ListingRefused (λ sync end writes. Open (cursorAt (sync + 4) writes)) longestImage image
 
 -- What reads alone to Loaded has not jumped.
 pub alone-stays : (image : List ℕ) (sync end writes : ℕ) (jumped : Bool) → readAlone image ≡ Loaded sync end writes jumped → jumped ≡ false
@@ -117,12 +127,12 @@ chip-steps chip k e =
     ∙ rw e refl
 
 pub image-steps : (image : List ℕ) (sync end writes k : ℕ) → imageAnswer image ≡ Accepted sync end writes → given (nthStep image k (stepOf image (cursorAt (sync + 4) writes))) ≡ imageWrite image k
-unfolding imageAnswer imageWrite onAnswer Proper
+unfolding imageAnswer onAnswer Proper
 image-steps image sync end writes k e =
     let p = rw (accepted-reads longestImage image sync end writes e) at (proper 0 false image 0 (omega arith)) in
     nth-step k image (cursorAt (sync + 4) writes)
     ∙ ap (λ (l : List Write). nthWrite l k) (counted-rest image sync end writes (p .1))
-    ∙ (rw e at (by-answer WriteRefused (λ sync end writes. nthWrite (writesFrom image (sync + 4)) k) longestImage image))
+    ∙ (rw e at (write-by-answer image k))
 
 -- A reading that is Loaded lists as many writes as it counts.
 pub listed-length : (left : ℕ) (jumped : Bool) (s : List ℕ) (from sync end writes : ℕ) (after : Bool) → from ≤ length s → readFrom left jumped s from ≡ Loaded sync end writes after →
@@ -162,10 +172,9 @@ nth-content (v ∷ a) (w ∷ b) (suc i) e = nth-content a b i cc
 
 pub whole-writes : (chip image : List ℕ) (sync end writes : ℕ) → lengthAllowed (length chip) ≡ true → imageAnswer image ≡ Accepted sync end writes → LoadsWhole chip image →
     (i : ℕ) → contentOf (chipWrite chip i) ≡ contentOf (imageWrite image i)
-unfolding chipWrite imageAnswer imageWrite onAnswer ask listed
+unfolding chipWrite imageAnswer onAnswer ask listed
 whole-writes chip image sync end writes l e same i =
     let alone = accepted-reads longestImage image sync end writes e in
-    let own : nthWrite (writesFrom image (sync + 4)) i ≡ imageWrite image i =
-    rw e at (by-answer WriteRefused (λ sync end writes. nthWrite (writesFrom image (sync + 4)) i) longestImage image) in
+    let own : nthWrite (writesFrom image (sync + 4)) i ≡ imageWrite image i = rw e at (write-by-answer image i) in
     rw l (nth-content (listed chip (readChip chip)) (writesFrom image (sync + 4)) i (same ∙ ap (λ (o : Outcome). contents (listed image o)) alone))
     ∙ ap contentOf own

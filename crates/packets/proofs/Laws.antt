@@ -20,8 +20,9 @@ use Rattle.packets.proofs.ReadingLaws.{read-ended, read-jump, search-fo
 use Rattle.packets.proofs.PlacementLaws.{find-moved, lookedTo, movedFinish, finish-moved, ended-after}
 pub use Rattle.packets.proofs.FramingLaws.{false-of, starts-at, starts-all, starts-differs, differs-at, word-of}
 pub use Rattle.packets.proofs.PlacementLaws.{movedWrite}
+pub use Rattle.packets.proofs.CursorLaws.{told-rest}
 unfoldable pub use Rattle.packets.proofs.AnswerLaws.{onAnswer}
-pub use Rattle.packets.proofs.AnswerLaws.{asked, false-true, length-allowed, by-answer, alone-stays, accepted-reads, accepted-length, accepted-sync, opened-rest, listed-length, chip-steps, image-steps, boots, booted, accepts, whole-writes}
+pub use Rattle.packets.proofs.AnswerLaws.{asked, false-true, length-allowed, by-answer, write-by-answer, listing-by-answer, alone-stays, accepted-reads, accepted-length, accepted-sync, opened-rest, listed-length, chip-steps, image-steps, boots, booted, accepts, whole-writes}
 
 -- Places apart, moved writes are the same writes.
 moved-contents : (d : ℕ) (writes : List Write) → contents (map (movedWrite d) writes) ≡ contents writes

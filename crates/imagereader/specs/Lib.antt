@@ -1,0 +1,2 @@
+-- What a reader is, and what it gives next.
+pub mod Reader

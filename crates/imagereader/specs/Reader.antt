@@ -1,0 +1,58 @@
+-- A reader of an image: what it gives next, and where it is after that, in the terms of the by-value cursor.
+use Prim.Native.Nat.{ℕ, zero, suc}
+use mathlib.Core.List.{List, [], _∷_}
+use denote.Ref.{RefT, now}
+use Rattle.packets.specs.Cursor.{stepOf}
+use Rattle.packets.specs.Answers.{imageListing}
+use Rattle.packets.specs.declared.writes.Cursor.{Cursor}
+use Rattle.packets.specs.declared.writes.CursorStep.{CursorStep}
+use Rattle.packets.specs.declared.writes.CursorStep.the-variants.{Wrote, Done}
+use Rattle.packets.specs.declared.writes.Listing.{Listing}
+use Rattle.packets.specs.declared.writes.Listing.the-variants.{Open, Refused}
+use Rattle.packets.specs.declared.writes.Write.{Write}
+use Rattle.packets.specs.declared.writes.WriteAnswer.{WriteAnswer}
+use Rattle.packets.specs.declared.writes.WriteAnswer.the-variants.{Found, Nothing, Refused as WriteRefused}
+use Rattle.imagereader.specs.declared.Reader.{Reader}
+use Rattle.imagereader.specs.declared.Taken.{Taken}
+
+-- a step of the cursor: its write and the cursor after it, or that there is none, and then the cursor stays
+unfoldable pub takenStep : CursorStep → Cursor → Taken
+takenStep (Wrote write after) c = record { answer = Found write; listing = Open after }
+takenStep Done c = record { answer = Nothing; listing = Open c }
+
+-- what is given next from where a listing is; a refused image is refused at every call
+unfoldable pub takenFrom : List ℕ → Listing → Taken
+takenFrom bytes (Open c) = takenStep (stepOf bytes c) c
+takenFrom bytes (Refused number place) = record { answer = WriteRefused number place; listing = Refused number place }
+
+-- the place of the next word, or that of the faulty word
+unfoldable pub placeOf : Listing → ℕ
+placeOf (Open c) = c .at
+placeOf (Refused number place) = place
+
+-- `Reader::new`
+abbrev pub readerAt : RefT (List ℕ) → Reader
+readerAt image = record { image = image; listing = imageListing (now image) }
+
+-- `Reader::next`: what it answers, and the reader after it, of the same image
+abbrev pub takenBy : Reader → Taken
+takenBy r = takenFrom (now (r .image)) (r .listing)
+
+abbrev pub moved : Reader → Reader
+moved r = record { image = r .image; listing = takenBy r .listing }
+
+-- the answer of the k-th `Reader::next`, counted from 0
+unfoldable pub nthNext : List ℕ → ℕ → Listing → WriteAnswer
+nthNext bytes zero l = takenFrom bytes l .answer
+nthNext bytes (suc k) l = nthNext bytes k (takenFrom bytes l .listing)
+
+-- a write before those that later calls give; where there is none, later calls give none
+unfoldable pub before : WriteAnswer → List Write → List Write
+before (Found write) later = write ∷ later
+before Nothing later = []
+before (WriteRefused number place) later = []
+
+-- the writes that n calls of `Reader::next` give, in order
+unfoldable pub readOut : List ℕ → ℕ → Listing → List Write
+readOut bytes zero l = []
+readOut bytes (suc n) l = before (takenFrom bytes l .answer) (readOut bytes n (takenFrom bytes l .listing))
