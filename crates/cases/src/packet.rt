@@ -134,8 +134,7 @@ fn no_chip(t: Tally, bytes: &[u8]) -> Tally {
     counted(t, number == 1 && place == 0)
 }
 
-fn writes(t: Tally, bytes: &[u8], i: usize, register: u32, word: u32, place: usize) -> Tally {
-    let answer = loader::write(bytes, i);
+fn found(t: Tally, answer: WriteAnswer, register: u32, word: u32, place: usize) -> Tally {
     let WriteAnswer::Found(w) = answer else {
         return counted(t, false);
     };
@@ -143,6 +142,10 @@ fn writes(t: Tally, bytes: &[u8], i: usize, register: u32, word: u32, place: usi
         t,
         w.register == register && w.word == word && w.place == place,
     )
+}
+
+fn writes(t: Tally, bytes: &[u8], i: usize, register: u32, word: u32, place: usize) -> Tally {
+    found(t, loader::write(bytes, i), register, word, place)
 }
 
 fn no_write(t: Tally, bytes: &[u8], i: usize) -> Tally {
@@ -719,13 +722,12 @@ fn begins(t: Tally, words: &[u32], register: u32, word: u32, place: usize) -> Ta
     }
     let mut bytes = [0u8; 64];
     put(&mut bytes, 0, words);
-    let answer = first_write(front(&bytes, 4 * words.len()));
-    let WriteAnswer::Found(w) = answer else {
-        return counted(t, false);
-    };
-    counted(
+    found(
         t,
-        w.register == register && w.word == word && w.place == place,
+        first_write(front(&bytes, 4 * words.len())),
+        register,
+        word,
+        place,
     )
 }
 
