@@ -715,29 +715,17 @@ fn seven_writes(chip: &[u8]) -> Tally {
     lists(t, chip, 7)
 }
 
-// What a reader made at an image of at most 16 words gives first.
-fn begins(t: Tally, words: &[u32], register: u32, word: u32, place: usize) -> Tally {
+// What a reader made at an image of at most 16 words gives first; of more, nothing.
+fn first_of(words: &[u32]) -> WriteAnswer {
     if 16 < words.len() {
-        return counted(t, false);
+        return WriteAnswer::Nothing;
     }
     let mut bytes = [0u8; 64];
     put(&mut bytes, 0, words);
-    found(
-        t,
-        first_write(front(&bytes, 4 * words.len())),
-        register,
-        word,
-        place,
-    )
+    first_write(front(&bytes, 4 * words.len()))
 }
 
-fn begins_refused(t: Tally, words: &[u32], number: u32, place: usize) -> Tally {
-    if 16 < words.len() {
-        return counted(t, false);
-    }
-    let mut bytes = [0u8; 64];
-    put(&mut bytes, 0, words);
-    let answer = first_write(front(&bytes, 4 * words.len()));
+fn refused(t: Tally, answer: WriteAnswer, number: u32, place: usize) -> Tally {
     let WriteAnswer::Refused {
         number: n,
         place: p,
@@ -750,23 +738,23 @@ fn begins_refused(t: Tally, words: &[u32], number: u32, place: usize) -> Tally {
 
 // A reader's first write, and the refusals of the image check.
 pub(crate) fn reader_cases() -> Tally {
-    let mut t = begins(none(), &[SYNC, CMD_1, DESYNC], 4, DESYNC, 8);
-    t = begins(
+    let mut t = found(none(), first_of(&[SYNC, CMD_1, DESYNC]), 4, DESYNC, 8);
+    t = found(
         t,
-        &[NOP, SYNC, NOP, 0x3000_2003, 1, 2, 3, CMD_1, DESYNC],
+        first_of(&[NOP, SYNC, NOP, 0x3000_2003, 1, 2, 3, CMD_1, DESYNC]),
         1,
         1,
         16,
     );
-    t = begins(
+    t = found(
         t,
-        &[SYNC, 0x3000_4000, 0x5000_0002, 8, 9, CMD_1, DESYNC],
+        first_of(&[SYNC, 0x3000_4000, 0x5000_0002, 8, 9, CMD_1, DESYNC]),
         2,
         8,
         12,
     );
-    t = begins_refused(t, &[], 4, 0);
-    t = begins_refused(t, &[NOP, NOP], 5, 8);
-    t = begins_refused(t, &[SYNC, 0x3000_2003, 1, 2], 5, 16);
-    begins_refused(t, &[SYNC, WBSTAR_1, 8, CMD_1, IPROG], 6, 16)
+    t = refused(t, first_of(&[]), 4, 0);
+    t = refused(t, first_of(&[NOP, NOP]), 5, 8);
+    t = refused(t, first_of(&[SYNC, 0x3000_2003, 1, 2]), 5, 16);
+    refused(t, first_of(&[SYNC, WBSTAR_1, 8, CMD_1, IPROG]), 6, 16)
 }

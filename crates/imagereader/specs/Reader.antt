@@ -25,7 +25,7 @@ unfoldable pub takenFrom : List ℕ → Listing → Taken
 takenFrom bytes (Open c) = takenStep (stepOf bytes c) c
 takenFrom bytes (Refused number place) = record { answer = WriteRefused number place; listing = Refused number place }
 
--- the place of the next word, or that of the faulty word
+-- `Reader::at`: the place of the next word, or the refusal's place
 unfoldable pub placeOf : Listing → ℕ
 placeOf (Open c) = c .at
 placeOf (Refused number place) = place
@@ -42,9 +42,9 @@ abbrev pub moved : Reader → Reader
 moved r = record { image = r .image; listing = takenBy r .listing }
 
 -- the answer of the k-th `Reader::next`, counted from 0
-unfoldable pub nthNext : List ℕ → ℕ → Listing → WriteAnswer
-nthNext bytes zero l = takenFrom bytes l .answer
-nthNext bytes (suc k) l = nthNext bytes k (takenFrom bytes l .listing)
+unfoldable pub nthNext : ℕ → Reader → WriteAnswer
+nthNext zero r = takenBy r .answer
+nthNext (suc k) r = nthNext k (moved r)
 
 -- a write before those that later calls give; where there is none, later calls give none
 unfoldable pub before : WriteAnswer → List Write → List Write
@@ -53,6 +53,6 @@ before Nothing later = []
 before (WriteRefused number place) later = []
 
 -- the writes that n calls of `Reader::next` give, in order
-unfoldable pub readOut : List ℕ → ℕ → Listing → List Write
-readOut bytes zero l = []
-readOut bytes (suc n) l = before (takenFrom bytes l .answer) (readOut bytes n (takenFrom bytes l .listing))
+unfoldable pub readOut : ℕ → Reader → List Write
+readOut zero r = []
+readOut (suc n) r = before (takenBy r .answer) (readOut n (moved r))

@@ -1,5 +1,6 @@
 // A reader of an image that holds the image and the next place. It gives the writes of the image read
-// by itself, one at a time, with no bytes copied and nothing read twice.
+// by itself, one at a time. Making one checks the whole image; each write is then read on from the last,
+// and no byte is copied.
 ghost use mathlib.Core.Path.{_≡_};
 ghost use Rattle.packets.specs.Answers.{imageWrite};
 ghost use Rattle.imagereader.specs.Reader.{takenStep, takenFrom, takenBy, placeOf, readerAt, moved};
@@ -54,7 +55,7 @@ fn take(image: &[u8], listing: Listing) -> Taken
     }
 }
 
-// The place of the next word, or that of the faulty word where the image is refused.
+// The place of the next word, or the refusal's place.
 fn place_of(listing: Listing) -> usize
     ensures { λ r. ⌜ r ≡ placeOf listing ⌝ }
 {
@@ -82,7 +83,7 @@ impl<'a> Reader<'a> {
         taken.answer
     }
 
-    // How far the reader is.
+    // How far the reader is, in bytes from the image's start.
     pub fn at(self) -> usize
         ensures { λ r. ⌜ r ≡ placeOf (self .entry .listing) ⌝ }
     {

@@ -145,7 +145,7 @@ module _ {M : Type 1} (𝓤 : URA M) (H : Heap 𝓤) (A : Atoms 𝓤) (W : Given
   -- what the first call gives is the first write
   first : found ≡ imageWrite (now s) 0
   unfolding nthNext
-  first = reads (now s) zero
+  first = reads s zero
 
   module _ (C : Calls 𝓤 H) (Λ : Loops 𝓤 H) (fm : FmC 𝓤 H (W .laws) C) (known-new : Triple 𝓤 (C #imagereader·Reader·new) (New 𝓤 H A mem″ run)) (known-next : Triple 𝓤 (C #imagereader·Reader·next) (Next 𝓤 H A mem″ run)) where
     walk : Is (ShrSlice (named 0) κ u8) s (slice s ∷ []) → ent 𝓤 (onEntry 𝓤 H A first-write.signature (κ, tt) (q, tt) (s, tt) (slice s ∷ [], tt)) (WpFn 𝓤 H C Λ code.function (slice s ∷ []) Post)
