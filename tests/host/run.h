@@ -5,7 +5,7 @@
 
 #include "reader.h"
 
-#include "../include/tealsettle.h"
+#include "../../include/tealsettle.h"
 
 typedef TealsettleState State;
 

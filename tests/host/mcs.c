@@ -5,7 +5,7 @@
 #include <stdlib.h>
 #include <string.h>
 
-#include "../include/tealsettle.h"
+#include "../../include/tealsettle.h"
 
 enum { TEXTS = 400000, ROOM = 2000, MARK = 0x5A };
 

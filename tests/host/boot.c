@@ -3,7 +3,7 @@
  * Answers, every write and every byte of the buffer are compared. Prints how many were tried. */
 #include "reader.h"
 
-#include "../include/tealsettle.h"
+#include "../../include/tealsettle.h"
 
 enum { IMAGES = 1000000, CHIPS = 60000, BUILDS = 60000, LARGE = 8, SMALL = 1 << 16, MARK = 0x5A };
 
