@@ -13,6 +13,9 @@ use lib.Seq.{drop-cons, getD-drop, drop-drop}
 use Rattle.packets.specs.Framing.{syncBytes, starts, find, words}
 use Rattle.packets.specs.declared.framing.Found.the-variants.{At, Nothing}
 
+pub never : {A : Type 0} → false ≡ true → A
+never e = let z : _≡_ {A = ℕ} 0 1 = cc in absurd (omega arith)
+
 -- Where a pattern begins, its bytes stand.
 
 and-left : (a b : Bool) → (a && b) ≡ true → a ≡ true
@@ -21,10 +24,7 @@ and-left false b e = e
 
 and-right : (a b : Bool) → (a && b) ≡ true → b ≡ true
 and-right true b e = e
-and-right false b e = let z : _≡_ {A = Bool} false true = e in absurd (no-true z)
-  where
-    no-true : false ≡ true → ⊥
-    no-true e = let z : _≡_ {A = ℕ} 0 1 = cc in omega arith
+and-right false b e = never e
 
 pub starts-length : (ps xs : List ℕ) → starts ps xs ≡ true → length ps ≤ length xs
 unfolding starts

@@ -11,9 +11,10 @@ use lib.Dec.{eqb}
 use lib.ListN.{length, getD, drop, length-drop}
 use lib.Seq.{drop-length}
 use Rattle.packets.specs.Framing.{words, wordAt}
-use Rattle.packets.specs.Packet.{ask, headOf, effectOf, CMD, WBSTAR}
+use Rattle.packets.specs.Packet.{ask, headOf, effectOf, CMD, WBSTAR, type1Of}
 use Rattle.packets.specs.Reading.{Before, other, Mode, header, payload, modeOf, afterHeader, Trace, wrote, ended, jumps, faulty, short, trace, lastWbstar, target, finish, listOf, traceFrom, finishFrom, writesFrom, nthWrite}
-use Rattle.packets.specs.Walk.{walked, beforeOf, going, comes, walkOf, startOf, onward, stoppedAt, reachedAt, passed, endingOf, HeldBy, Held, leftBy, Stepped, Inside}
+use Rattle.packets.specs.Walk.{walked, beforeOf, going, comes, walkOf, startOf, onward, stoppedAt, reachedAt, passed, endingOf, HeldBy, Held, leftBy, Stepped, NOP, AtHeader, Past, Inside}
+use Rattle.packets.specs.declared.header.Header.the-variants.{Type1}
 use Rattle.packets.specs.declared.header.Effect.{Effect}
 use Rattle.packets.specs.declared.header.Effect.the-variants.{GoesOn, Desync, Iprog as Jumps}
 use Rattle.packets.specs.declared.walk.Finish.{Finish}
@@ -218,6 +219,36 @@ module _ (s : List ℕ) (w : Walk) (status : w .status ≡ Going) (some-left : 1
       (sym (in-packet run (omega arith) (omega arith) (omega arith) q
       ∙ rw (l, k, words-at s (w .at) run b, kept-none _ (words (drop (w .at) s)) run (w .wbstar) lone-register)
       (end-data _ _ (w .at + 4 * run) (w .register) _ _ (w .writes + run) (w .wbstar) _ refl e lone-register)))
+
+-- Whole packets passed.
+
+pub past-none : (s : List ℕ) (w : Walk) → AtHeader w → Past s w w
+past-none s w ready = record { same = refl; ready = ready; on = omega arith; within = λ h. h }
+
+pub past-on : (s : List ℕ) (w v r : Walk) → Past s w v → Past s v r → Past s w r
+past-on s w v r a b = record { same = b .same ∙ a .same; ready = b .ready; on = omega (arith, a .on, b .on); within = λ h. b .within (a .within h) }
+
+pub past-nop : (s : List ℕ) (w : Walk) → AtHeader w → w .at + 4 ≤ length s → wordAt s (w .at) ≡ NOP → Past s w (onward w 0 0 false)
+unfolding headOf type1Of ask afterHeader modeOf beforeOf
+past-nop s w ready h e = record {
+  same = header-on s w (ready .0) (ready .1) (ready .2) (omega (arith, room s (w .at))) 0 0 false (rw e refl) .same;
+  ready = (refl, refl, omega (arith, ready .2));
+  on = omega arith;
+  within = λ l. omega arith;
+}
+
+pub past-whole : (s : List ℕ) (w : Walk) (register count : ℕ) → AtHeader w → w .at + 4 ≤ length s → headOf (wordAt s (w .at)) ≡ Type1 register count →
+    1 ≤ count → count ≤ w .skip → count ≤ length (words (drop (w .at + 4) s)) →
+    ((i : ℕ) → i < count → effectOf register (getD (words (drop (w .at + 4) s)) i 0) ≡ GoesOn) →
+    Past s w (passed s (onward w register count true))
+unfolding afterHeader beforeOf
+past-whole s w register count ready h e some-data skip enough quiet = record {
+  same = data-past s (onward w register count true) refl some-data (omega (arith, ready .2)) enough skip quiet .same
+      ∙ header-on s w (ready .0) (ready .1) (ready .2) (omega (arith, room s (w .at))) register count true (rw e refl) .same;
+  ready = (refl, refl, omega (arith, ready .2));
+  on = omega arith;
+  within = λ l. omega (arith, enough, room s (w .at + 4));
+}
 
 -- A write that is reached lies whole within the bytes.
 

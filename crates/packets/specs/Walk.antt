@@ -75,6 +75,21 @@ pub record Stepped (s : List ℕ) (w r : Walk) : Type 0 where
   pub held : Held (length s) r
   pub nearer : leftBy (r .status) (length s) (r .at) ≤ length s - w .at
 
+-- the header of a no-operation: there is but one
+abbrev pub NOP : ℕ
+NOP = 0x20000000
+
+-- a walk that goes on, before a header
+abbrev pub AtHeader : Walk → Type 0
+AtHeader w = (w .status ≡ Going) × (w .left ≡ 0) × (w .writes ≤ w .at)
+
+-- what passing whole packets keeps: what the walk comes to, that it stands before a header, and that it does not go back or out of the bytes
+pub record Past (s : List ℕ) (w r : Walk) : Type 0 where
+  pub same : walkOf s r ≡ walkOf s w
+  pub ready : AtHeader r
+  pub on : w .at ≤ r .at
+  pub within : w .at ≤ length s → r .at ≤ length s
+
 abbrev pub startOf : ℕ → ℕ → Walk
 startOf from skip = record { at = from; register = 0; left = 0; opened = false; skip = skip; writes = 0; wbstar = 0; status = Going }
 

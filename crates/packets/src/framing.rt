@@ -1,5 +1,6 @@
 // Framing: where the sync word is, and the 32-bit words after it, high byte first.
 ghost use mathlib.Core.Path.{_≡_};
+ghost use mathlib.Core.Bool.{true};
 ghost use Prim.Native.Nat.{ℕ, _+_, _-_, _<_, _≤_};
 ghost use lib.ListN.{length, getD, drop};
 ghost use Rattle.packets.specs.Framing.{syncBytes, find, words, wordAt};
@@ -26,6 +27,38 @@ fn skip_after(last: u8) -> usize
     }
 }
 
+// Whether no sync word can begin in the 16 bytes from `at` on. The loop is never left early: so it is
+// compiled to compare all of them at once.
+fn is_clear(s: &[u8], at: usize) -> bool
+    requires { ⌜ at + 16 ≤ length (now s) ⌝ }
+    ensures { λ r. ⌜ (r ≡ true → (i : ℕ) → i < 16 → getD (now (s .entry)) (at + i) 0 ≡ getD syncBytes 0 0 → ⊥) ⌝ }
+{
+    let mut clear = true;
+    let mut i = 0;
+    while i < 16 {
+        if s[at + i] == 0xAA {
+            clear = false;
+        }
+        i += 1;
+    }
+    clear
+}
+
+// The place after as many blocks of 16 bytes as no sync word can begin in.
+fn past_clear(s: &[u8], from: usize) -> usize
+    requires { ⌜ from ≤ length (now s) ⌝ }
+    ensures { λ r. ⌜ (from ≤ r) × (r ≤ length (now (s .entry))) × (find (drop r (now (s .entry))) r ≡ find (drop from (now (s .entry))) from) ⌝ }
+{
+    let mut at = from;
+    while s.len() - at >= 16 {
+        if !is_clear(s, at) {
+            return at;
+        }
+        at += 16;
+    }
+    at
+}
+
 // The first place at or after `from` where four bytes read AA 99 55 66, at any byte. Where they do
 // not, the fourth says how far on the next place is at which they can: four bytes, mostly.
 pub(crate) fn find_sync(s: &[u8], from: usize) -> Found
@@ -34,6 +67,7 @@ pub(crate) fn find_sync(s: &[u8], from: usize) -> Found
 {
     let mut at = from;
     'search: loop {
+        at = past_clear(s, at);
         if s.len() - at < 4 {
             break 'search Found::Nothing;
         }

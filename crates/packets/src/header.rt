@@ -6,6 +6,9 @@ pub(crate) const CMD: u32 = 4;
 
 pub(crate) const WBSTAR: u32 = 16;
 
+// The header of a no-operation: there is but one.
+pub(crate) const NOP: u32 = 0x2000_0000;
+
 const DESYNC: u32 = 0x0000_000D;
 
 const IPROG: u32 = 0x0000_000F;

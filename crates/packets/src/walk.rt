@@ -1,19 +1,22 @@
 // The packets from a place on: headers one by one, data words by the packet. Only the data words of
 // CMD are looked at; of every other register they are counted, and the last WBSTAR word is kept.
 ghost use mathlib.Core.Path.{_≡_};
+ghost use mathlib.Core.Bool.{true};
 ghost use Prim.Native.Nat.{ℕ, _+_, _-_, _*_, _^_, _<_, _≤_, min};
 ghost use lib.ListN.{length, getD, drop};
-ghost use Rattle.packets.specs.Framing.{words};
-ghost use Rattle.packets.specs.Packet.{effectOf};
+ghost use Rattle.packets.specs.Framing.{words, wordAt};
+ghost use Rattle.packets.specs.Packet.{headOf, effectOf};
 ghost use Rattle.packets.specs.declared.header.Effect.the-variants.{GoesOn};
+ghost use Rattle.packets.specs.declared.header.Header.the-variants.{Type1};
 ghost use Rattle.packets.specs.declared.walk.Status.the-variants.{Going};
 ghost use Rattle.packets.specs.Reading.{finishFrom};
-ghost use Rattle.packets.specs.Walk.{walkOf, startOf, onward, stoppedAt, endingOf, reachedAt, passed, Held, Stepped, Inside};
+ghost use Rattle.packets.specs.Walk.{walkOf, startOf, onward, stoppedAt, endingOf, reachedAt, passed, Held, Stepped, AtHeader, Past, Inside};
 use crate::framing::word_at;
 use crate::framing::words_from;
 use crate::header::CMD;
 use crate::header::Effect;
 use crate::header::Header;
+use crate::header::NOP;
 use crate::header::WBSTAR;
 use crate::header::effect_of;
 use crate::header::header_of;
@@ -124,7 +127,7 @@ fn stopped(w: Walk, at: usize, writes: usize, status: Status) -> Walk
 }
 
 fn header_step(s: &[u8], w: Walk) -> Walk
-    requires { ⌜ (w .status ≡ Going) × (w .left ≡ 0) × (w .writes ≤ w .at) ⌝ }
+    requires { ⌜ AtHeader w ⌝ }
     ensures { λ r. ⌜ Stepped (now (s .entry)) w r ⌝ }
 {
     let at = w.at;
@@ -220,6 +223,87 @@ fn data_step(s: &[u8], w: Walk) -> Walk
     after_packet(s, w)
 }
 
+// Whether all of a packet's data words can be passed at once: there are some, no more than `room`, and
+// none of them can end the reading. Of CMD's only a lone word is looked at here.
+fn may_pass(s: &[u8], at: usize, register: u32, count: usize, room: usize) -> bool
+    requires { ⌜ (count ≤ room → count ≤ length (words (drop at (now s)))) ⌝ }
+    ensures { λ r. ⌜ (r ≡ true → (1 ≤ count) × (count ≤ room) × ((i : ℕ) → i < count → effectOf register (getD (words (drop at (now (s .entry)))) i 0) ≡ GoesOn)) ⌝ }
+{
+    if count == 0 {
+        return false;
+    }
+    if room < count {
+        return false;
+    }
+    if register != CMD {
+        return true;
+    }
+    if count != 1 {
+        return false;
+    }
+    let effect = effect_of(register, word_at(s, at));
+    let Effect::GoesOn = effect else {
+        return false;
+    };
+    true
+}
+
+// The walk after the packet of a type 1 header at its place; or as it was, where the packet cannot be
+// passed at once.
+fn past_data(s: &[u8], w: Walk, register: u32, count: usize, room: usize) -> Walk
+    requires { ⌜ AtHeader w × (w .at + 4 ≤ length (now s)) × (headOf (wordAt (now s) (w .at)) ≡ Type1 register count) × (room ≤ w .skip) × (count ≤ room → count ≤ length (words (drop (w .at + 4) (now s)))) ⌝ }
+    ensures { λ r. ⌜ Past (now (s .entry)) w r ⌝ }
+{
+    if !may_pass(s, w.at + 4, register, count, room) {
+        return w;
+    }
+    after_packet(s, after_header(w, register, count, true))
+}
+
+// The walk after the packet whose header is `word`, the word at its place; or as it was. Most packets have
+// one data word: these are told apart so that the next place does not wait for the count.
+fn past_packet(s: &[u8], w: Walk, word: u32) -> Walk
+    requires { ⌜ AtHeader w × (w .at + 8 ≤ length (now s)) × (word ≡ wordAt (now s) (w .at)) ⌝ }
+    ensures { λ r. ⌜ Past (now (s .entry)) w r ⌝ }
+{
+    if word == NOP {
+        return after_header(w, 0, 0, false);
+    }
+    let header = header_of(word);
+    let Header::Type1 { register, count } = header else {
+        return w;
+    };
+    if count == 1 {
+        return past_data(s, w, register, 1, w.skip);
+    }
+    let room = smaller(w.skip, words_from(s, w.at + 4));
+    past_data(s, w, register, count as usize, room)
+}
+
+// The walk after as many whole packets and no-operations as can be passed. It goes by a word at a
+// time that is loaded ahead, and so spares `follow` its steps where packets are small.
+fn past_packets(s: &[u8], start: Walk) -> Walk
+    requires { ⌜ AtHeader start ⌝ }
+    ensures { λ r. ⌜ Past (now (s .entry)) start r ⌝ }
+{
+    let mut w = start;
+    if words_from(s, w.at) < 2 {
+        return w;
+    }
+    let mut word = word_at(s, w.at);
+    loop {
+        let at = w.at;
+        w = past_packet(s, w, word);
+        if w.at == at {
+            return w;
+        }
+        if s.len() - w.at < 8 {
+            return w;
+        }
+        word = word_at(s, w.at);
+    }
+}
+
 // What a walk that goes on no more has come to.
 fn come_to(s: &[u8], w: Walk) -> Walked
     requires { ⌜ (w .status ≡ Going → ⊥) × Held (length (now s)) w ⌝ }
@@ -265,7 +349,7 @@ pub(crate) fn follow(s: &[u8], start: Walk) -> Walked
         };
         let left = w.left;
         w = if left == 0 {
-            header_step(s, w)
+            header_step(s, past_packets(s, w))
         } else {
             data_step(s, w)
         };

@@ -29,6 +29,14 @@ abbrev μ-search : tie.MeasureT-search
 search-holds : tie.Need-search-holds Inv-loop μ-loop Inv-search μ-search
 search-holds c = (search needs, refl)
 
+past-clear-requires : tie.Need-past-clear-requires Inv-loop μ-loop Inv-search μ-search
+past-clear-requires c κs = c .search .inv .0
+
+-- after the blocks that were passed the search finds what it would have found before them
+onward : (c : tie.After-past-clear Inv-loop μ-loop Inv-search μ-search) →
+    find (drop (c .past-clear .result) (c .before .before .before .args .s .now)) (c .past-clear .result) ≡ find (drop (c .before .before .before .args .from) (c .before .before .before .args .s .now)) (c .before .before .before .args .from)
+onward c = c .past-clear .ensures .2 ∙ c .before .search .inv .1
+
 sub-if1 : tie.Need-sub-if1 Inv-loop μ-loop Inv-search μ-search
 sub-if1 c = omega arith
 
@@ -72,12 +80,12 @@ passed s at j r hj d hr h (suc i) hi =
 search-again : tie.Need-search-again Inv-loop μ-loop Inv-search μ-search
 search-again c =
     let at = c .before .before .before .before .before .loop .at in
-    let s = c .before .before .before .before .before .before .before .before .before .args .s .now in
+    let s = c .before .before .before .before .before .before .before .before .before .before .args .s .now in
     let moved : at + c .skip-after .result ≤ length s = omega arith in (
       moved,
       sym (find-past s (c .skip-after .result) at moved
           (passed s at (c .before .before .before .before .before .loop .i) (c .skip-after .result) (omega arith) (c .before .before .if2 .taken) (c .skip-after .ensures .0 .1) (c .skip-after .ensures .1)))
-          ∙ rw (c .before .before .before .before .before .loop .inv .0) (c .before .before .before .before .before .before .before .search .inv .1),
+          ∙ rw (c .before .before .before .before .before .loop .inv .0) (onward (c .before .before .before .before .before .before .before)),
     )
 
 add-i : tie.Need-add-i Inv-loop μ-loop Inv-search μ-search
@@ -95,14 +103,14 @@ loop-again c = (
 
 returns : tie.Need-returns Inv-loop μ-loop Inv-search μ-search
 returns c =
-    sym (find-short _ _ (simp length-drop (c .if1 .taken))) ∙ c .before .search .inv .1
+    sym (find-short _ _ (simp length-drop (c .if1 .taken))) ∙ onward (c .before)
 
 returns-2 : tie.Need-returns-2 Inv-loop μ-loop Inv-search μ-search
 returns-2 c =
     let at = c .before .loop .at in
-    let s = c .before .before .before .before .before .args .s .now in
+    let s = c .before .before .before .before .before .before .args .s .now in
     sym (find-here (drop at s) at (stands-at s at (omega arith) (λ j h. c .before .loop .inv .2 j (omega arith))))
-    ∙ rw (c .before .loop .inv .0) (c .before .before .before .search .inv .1)
+    ∙ rw (c .before .loop .inv .0) (onward (c .before .before .before))
 
 pub find-sync-spec : {M : Type 1} → statement M
 find-sync-spec =
@@ -113,6 +121,7 @@ find-sync-spec =
     Inv-search
     μ-search
     search-holds
+    past-clear-requires
     sub-if1
     loop-holds
     add-if2

@@ -28,9 +28,12 @@ returns : tie.Need-returns Inv-loop μ-loop
 returns c = let e = c .come-to .ensures ∙ c .before .before .loop .inv .1 in
     (e, rw e (inside (c .before .before .before .before .args .s .now) (c .before .before .before .before .args .start) (c .before .before .before .before .pre)))
 
-header-step-requires : tie.Need-header-step-requires Inv-loop μ-loop
+past-packets-requires : tie.Need-past-packets-requires Inv-loop μ-loop
 unfolding HeldBy
-header-step-requires c κs = (c .before .enum-told .given .1, c .if1 .taken, rw (c .before .enum-told .given .1) at (c .before .before .before .loop .inv .0))
+past-packets-requires c κs = (c .before .enum-told .given .1, c .if1 .taken, rw (c .before .enum-told .given .1) at (c .before .before .before .loop .inv .0))
+
+header-step-requires : tie.Need-header-step-requires Inv-loop μ-loop
+header-step-requires c κs = c .past-packets .ensures .ready
 
 data-step-requires : tie.Need-data-step-requires Inv-loop μ-loop
 unfolding HeldBy
@@ -38,10 +41,15 @@ data-step-requires c κs = (c .before .enum-told .given .1, omega arith, rw (c .
 
 loop-less : tie.Need-loop-less Inv-loop μ-loop
 unfolding leftBy
-loop-less c = let n = c .header-step .ensures .nearer in rw (c .before .before .enum-told .given .1) (omega arith)
+loop-less c =
+    let n = c .header-step .ensures .nearer in
+    rw (c .before .before .before .enum-told .given .1) (omega (arith, c .before .past-packets .ensures .on))
 
 loop-again : tie.Need-loop-again Inv-loop μ-loop
-loop-again c = (c .header-step .ensures .held, c .header-step .ensures .same ∙ c .before .before .before .before .loop .inv .1)
+loop-again c = (
+  c .header-step .ensures .held,
+  c .header-step .ensures .same ∙ c .before .past-packets .ensures .same ∙ c .before .before .before .before .before .loop .inv .1,
+)
 
 loop-less-2 : tie.Need-loop-less-2 Inv-loop μ-loop
 unfolding leftBy
@@ -60,6 +68,7 @@ follow-spec =
     enum-told
     come-to-requires
     returns
+    past-packets-requires
     header-step-requires
     data-step-requires
     loop-less
