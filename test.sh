@@ -1,7 +1,8 @@
 #!/usr/bin/env bash
 # The tests: proves every listed crate from nothing, tries every must-fail edit, runs every program and
-# compares what it writes; then `bootreport` on each file of tests/report/, and the C host's tests on the
-# proved library. The last line is 'N passed, 0 failed' only if all of that went well.
+# compares what it writes; then `bootreport` on each file of tests/report/, the C host's tests on the proved
+# library, the example, killed in every order, README's sessions, and docs/PROOFS.md against the source. The last line is
+# 'N passed, 0 failed' only if all of that went well.
 set -euo pipefail
 cd "$(dirname "$0")"
 
@@ -12,12 +13,16 @@ passed=$(tail -n 1 "$log" | sed -n 's/^\([0-9][0-9]*\) passed, 0 failed$/\1/p')
 [ -n "$passed" ]
 failed=0
 
+try() {
+    if "$@"; then passed=$((passed + 1)); else failed=$((failed + 1)); fi
+}
+
+reports() {
+    target/bin/bootreport <"$1" | cmp - "${1%.stdin}.stdout"
+}
+
 for input in tests/report/*.stdin; do
-    if target/bin/bootreport <"$input" | cmp - "${input%.stdin}.stdout"; then
-        passed=$((passed + 1))
-    else
-        failed=$((failed + 1))
-    fi
+    try reports "$input"
 done
 
 rt staticlib host >/dev/null
@@ -25,7 +30,10 @@ mkdir -p target/tests/host
 for source in tests/host/*.c; do
     name=$(basename "$source" .c)
     cc -std=c11 -O2 -Wall -Wextra -Werror -o "target/tests/host/$name" "$source" target/staticlib/libhost.a
-    if "target/tests/host/$name"; then passed=$((passed + 1)); else failed=$((failed + 1)); fi
+    try "target/tests/host/$name"
 done
+try tests/example/run
+try tests/sessions
+try python3 docs/proofs.py --check
 echo "$passed passed, $failed failed"
 [ "$failed" -eq 0 ]

@@ -62,6 +62,10 @@ extern "C" {
 #define TEALSETTLE_PROGRAM 2u
 #define TEALSETTLE_LOOK 3u
 
+/* The bytes of an erase, and the most of a program or a look. */
+#define TEALSETTLE_SEGMENT 4096u
+#define TEALSETTLE_PAGE 256u
+
 /* ---- Image files ---- */
 
 /* What reading MCS text came to. */
@@ -132,16 +136,29 @@ TealsettleBuild tealsettle_build(uint32_t kind, size_t length, size_t update, si
 
 /* ---- A run: updating a chip ----
  *
- *     start                        gives the first state, or refuses
- *     order, carry it out, reply   again and again: each reply hands back the next state
- *     finished                     the run has ended, with outcome 0; or 10 to 12 after a stop
+ *     TealsettleStart start = tealsettle_start(TEALSETTLE_SPI, length, update, area, image, image_length);
+ *     TealsettleReply reply = {.number = start.number, .place = start.place, .state = start.state};
+ *     while (reply.number == 0 && !tealsettle_finished(TEALSETTLE_SPI, TEALSETTLE_STATE(reply.state)).ended) {
+ *         TealsettleOrder order = tealsettle_order(TEALSETTLE_SPI, TEALSETTLE_STATE(reply.state), image, image_length);
+ *         ... carry it out, once: erase, program, or read into `seen` ...
+ *         reply = tealsettle_reply(TEALSETTLE_SPI, TEALSETTLE_STATE(reply.state), image, image_length, said, seen, seen_length);
+ *     }
  *
- * The state is all that a run is, and the caller keeps it. Each order is carried out once, and each reply
- * is given the state handed back last. A refused reply changes nothing; the order need not be carried out
- * again. The image is lent again at each order and each reply, and is the one that the run was started
- * with, unaltered: so what a look must find is always the image's own bytes. After a power cut the state is
- * lost and the printer loads a whole image all the same; an update begins again with a start, which may come
- * at any time. */
+ * It ends with number 0: the image is written, read back and switched on; or with the number of a refusal or a
+ * stop. examples/update.c is a whole host.
+ *
+ * The state is all that a run is, and the caller keeps it, in memory only. After a power cut it is lost, the printer
+ * loads a whole image all the same, and an update begins again with a start, which may come at any time.
+ *
+ * What the guarantee asks of the host:
+ *   - every run of a chip is started with the length and the update place that the chip was built with;
+ *   - the image is lent again at each order and each reply, and is the one that the run was started with,
+ *     unaltered: so what a look must find is always the image's own bytes;
+ *   - each order is carried out once, and each reply is given the state handed back last. A refused reply changes
+ *     nothing, and the order is not carried out again;
+ *   - what a look reads is what stands on the chip, and nobody else writes the chip.
+ * And of the chip: bytes change only under an erase or program and within its span, and in segment 0 each bit ends
+ * old or as ordered. In the update area a failed or cut order may leave anything. */
 
 /* Where a run is. */
 typedef struct {
@@ -153,6 +170,10 @@ typedef struct {
     size_t index;        /* of the order in its phase; 0 in phase 7 */
     uint32_t outcome;    /* 0; in phase 7 after a stop its number, 10 to 12 */
 } TealsettleState;
+
+/* A state as the calls take it: its numbers, in their order. */
+#define TEALSETTLE_STATE(s) \
+    (s).length, (s).update, (s).area, (s).image_length, (s).phase, (s).index, (s).outcome
 
 /* What starting a run came to. */
 typedef struct {
@@ -200,8 +221,8 @@ typedef struct {
     TealsettleState state; /* the next one; after a stop phase 7; after a refusal the one that was given */
 } TealsettleReply;
 
-/* The reply to the order of a state: `said` is TEALSETTLE_DONE, with no bytes, after an erase or program, and
- * TEALSETTLE_READ, with the bytes that the chip read, after a look. */
+/* The reply to the order of a state: `said` is TEALSETTLE_DONE, with a length of 0 (and a pointer that is not null),
+ * after an erase or program, and TEALSETTLE_READ, with the bytes that the chip read, after a look. */
 TealsettleReply tealsettle_reply(uint32_t kind, size_t length, size_t update, size_t area, size_t state_image_length,
                                  uint32_t phase, size_t index, uint32_t outcome, const uint8_t *image,
                                  size_t image_length, uint32_t said, const uint8_t *bytes, size_t bytes_length);

@@ -152,7 +152,7 @@ static uint8_t left_byte(const Order *o, uint8_t old, size_t i, int way)
 
 static int carry_out(int way)
 {
-    TealsettleOrder r = tealsettle_order(TEALSETTLE_SPI, NUMBERS(state), running->bytes, running->length);
+    TealsettleOrder r = tealsettle_order(TEALSETTLE_SPI, TEALSETTLE_STATE(state), running->bytes, running->length);
     if (order_differs(TEALSETTLE_SPI, state, running->bytes, running->length, r))
         return 1;
     Order o = {r.operation, r.address, r.length, {0}};
@@ -177,8 +177,8 @@ static int reply_true(void)
     const uint8_t *bytes = chip + o.address;
     size_t lent = look ? o.length : 0;
     TealsettleReply m = model_reply(TEALSETTLE_SPI, state, running->bytes, running->length, said, bytes, lent);
-    TealsettleReply r = tealsettle_reply(TEALSETTLE_SPI, NUMBERS(state), running->bytes, running->length, said, bytes, lent);
-    if (reply_differs(r, m) || finished_differs(TEALSETTLE_SPI, r.state, tealsettle_finished(TEALSETTLE_SPI, NUMBERS(r.state))))
+    TealsettleReply r = tealsettle_reply(TEALSETTLE_SPI, TEALSETTLE_STATE(state), running->bytes, running->length, said, bytes, lent);
+    if (reply_differs(r, m) || finished_differs(TEALSETTLE_SPI, r.state, tealsettle_finished(TEALSETTLE_SPI, TEALSETTLE_STATE(r.state))))
         return 1;
     state = r.state, carried = 0;
     stops[r.number]++;
@@ -195,7 +195,7 @@ static int reply_wrong(void)
     if (m.number < 7 || m.number > 9)
         return 0; /* not refused, and not true: no event of a life */
     refused++;
-    return reply_differs(tealsettle_reply(kind, NUMBERS(state), image->bytes, image->length, said, chip + at, lent), m) || claim_fails();
+    return reply_differs(tealsettle_reply(kind, TEALSETTLE_STATE(state), image->bytes, image->length, said, chip + at, lent), m) || claim_fails();
 }
 
 static int cut_power(void)

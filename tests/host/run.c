@@ -82,7 +82,7 @@ static int try_reply(uint32_t kind, State s, size_t lent)
         bytes[length > 0 ? below(length) : 0] ^= (uint8_t)(1u << below(8));
     TealsettleReply m = model_reply(kind, s, image, lent, said, bytes, length);
     answers[m.number]++;
-    return reply_differs(tealsettle_reply(kind, NUMBERS(s), image, lent, said, bytes, length), m);
+    return reply_differs(tealsettle_reply(kind, TEALSETTLE_STATE(s), image, lent, said, bytes, length), m);
 }
 
 static int try_total(uint32_t kind, State s)
@@ -105,8 +105,8 @@ static int try_state(void)
     if (one_in(20))
         lent = below(5000);
     tried++;
-    return order_differs(kind, s, image, lent, tealsettle_order(kind, NUMBERS(s), image, lent)) || try_reply(kind, s, lent) ||
-           finished_differs(kind, s, tealsettle_finished(kind, NUMBERS(s))) || try_total(kind, s);
+    return order_differs(kind, s, image, lent, tealsettle_order(kind, TEALSETTLE_STATE(s), image, lent)) || try_reply(kind, s, lent) ||
+           finished_differs(kind, s, tealsettle_finished(kind, TEALSETTLE_STATE(s))) || try_total(kind, s);
 }
 
 static int try_start(void)

@@ -9,9 +9,6 @@
 
 typedef TealsettleState State;
 
-/* A state as the calls take it. */
-#define NUMBERS(s) (s).length, (s).update, (s).area, (s).image_length, (s).phase, (s).index, (s).outcome
-
 /* An order, and what must stand in the span of a look. */
 typedef struct {
     uint32_t operation;
@@ -145,7 +142,7 @@ static inline int state_differs(const char *what, State ours, State theirs)
     if (same_state(ours, theirs))
         return 0;
     printf("input %ld: %s is %zu %zu %zu %zu, phase %u index %zu outcome %u, but the model says %zu %zu %zu %zu, phase %u index %zu outcome %u\n",
-           tried, what, NUMBERS(ours), NUMBERS(theirs));
+           tried, what, TEALSETTLE_STATE(ours), TEALSETTLE_STATE(theirs));
     return 1;
 }
 

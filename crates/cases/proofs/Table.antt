@@ -14,12 +14,12 @@ use Rattle.updater.specs.Run.{byPhase, count, before as runBefore}
 use Rattle.updater.specs.Orders.{inPhase, ordersBefore}
 use Rattle.updater.specs.Answers.{totalAnswer}
 use Rattle.mcs.specs.Text.{digits, total}
-use Rattle.mcs.specs.Reading.{ask as mcs-ask, placeIn, digitOf, before, linesOf, isEnding, onto, bySpelled, spelledBy, lineSpells, byType, typed, parsed, byParsed, follows, isEmpty, readFrom}
+use Rattle.mcs.specs.Reading.{placeIn, digitOf, before, linesOf, isEnding, onto, bySpelled, spelledBy, lineSpells, byType, typed, parsed, byParsed, follows, isEmpty, readFrom}
 use Rattle.mcs.specs.Answers.{answerOf, filledBy}
 use Rattle.cases.specs.Cases.{imageSays, textSays, layoutSays, switchSays, totalSays, All, jumping, rows}
 
 table : All rows
-unfolding All rows imageSays textSays layoutSays switchSays totalSays answerOf filledBy readFrom byParsed follows parsed bySpelled typed byType lineSpells spelledBy onto isEnding isEmpty linesOf before digitOf placeIn digits total mcs-ask imageAnswer imageLength aloneCase ask readAt searchFrom jump find starts words trace finish afterHeader modeOf headOf type1Of type2Of registerOk effectOf layoutAnswer askLayout lengthAllowed updateAllowed areaAllowed switchAnswer switchCase totalAnswer runBefore count byPhase ordersBefore inPhase
+unfolding All rows imageSays textSays layoutSays switchSays totalSays answerOf filledBy readFrom byParsed follows parsed bySpelled typed byType lineSpells spelledBy onto isEnding isEmpty linesOf before digitOf placeIn digits total imageAnswer imageLength aloneCase ask readAt searchFrom jump find starts words trace finish afterHeader modeOf headOf type1Of type2Of registerOk effectOf layoutAnswer askLayout lengthAllowed updateAllowed areaAllowed switchAnswer switchCase totalAnswer runBefore count byPhase ordersBefore inPhase
 table = (
   λ rest h. refl,
   (

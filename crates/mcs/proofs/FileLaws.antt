@@ -7,6 +7,7 @@ use native.Mathlib.Omega.{arith}
 use borrow.Author.Tests.{eqb-true, eq-eqb, le-leb, leb-true}
 use lib.Dec.{eqb}
 use lib.ListN.{length, length-append}
+use Rattle.base.proofs.Laws.{false-true}
 use Rattle.mcs.specs.Text.{LF, CR, COLON, hex, Ending, Lf, CrLf, endingText, lineText, Record, Data, Upper, End, bodyOf, sumOf, pairsOf, Line, Row, recordText, fileText, AllBytes, Fit, FileFrom, FileOf}
 use Rattle.mcs.specs.Reading.{ask, Parsed, Is, Refuses, parsed, follows, before, linesOf, isEmpty, Holds, readFrom, readText}
 use Rattle.mcs.proofs.LineLaws.{lines-none, lines-lf, lines-on, before-line}
@@ -67,7 +68,7 @@ true-follows half address next count e = go (eqb (half * 65536 + address) next) 
   where
     go : (b : Bool) → eqb (half * 65536 + address) next ≡ b → (half * 65536 + address ≡ next) × (address + count ≤ 65536)
     go true h = (eqb-true _ _ h, leb-true _ _ (rw h at e))
-    go false h = let f : false ≡ true = rw h at e in let z : _≡_ {A = ℕ} 0 1 = cc in absurd (omega arith)
+    go false h = absurd (false-true (rw h at e))
 
 lines-file : (r : Record) (e : Ending) (lines : List Line) → Fit r → linesOf (fileText (Row r e ∷ lines)) ≡ recordText (Row r e) ∷ linesOf (fileText lines)
 unfolding fileText
@@ -107,7 +108,7 @@ Written half image texts whole = (lines : List Line) × ((joined texts ≡ fileT
 
 no-lines-left : (texts : List (List ℕ)) → isEmpty texts ≡ true → texts ≡ []
 no-lines-left [] e = refl
-no-lines-left (text ∷ texts) e = let f : false ≡ true = sym (none-some text texts) ∙ e in let z : _≡_ {A = ℕ} 0 1 = cc in absurd (omega arith)
+no-lines-left (text ∷ texts) e = absurd (false-true (sym (none-some text texts) ∙ e))
 
 joined-none : joined [] ≡ fileText []
 unfolding joined fileText

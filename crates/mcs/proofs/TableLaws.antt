@@ -8,6 +8,7 @@ use native.Mathlib.Omega.{arith}
 use borrow.Author.Tests.{eqb-true}
 use lib.Dec.{eqb}
 use lib.ListN.{length, getD, replicate}
+use Rattle.base.proofs.Laws.{both-true}
 use Rattle.mcs.specs.Text.{digits}
 use Rattle.mcs.specs.Reading.{placeIn, digitOf}
 use Rattle.mcs.specs.Place.{DigitTable}
@@ -17,20 +18,12 @@ abbrev pub agrees : (ℕ → ℕ) → ℕ → List ℕ → Bool
 agrees rule i [] = true
 agrees rule i (x ∷ xs) = eqb x (rule i) && agrees rule (suc i) xs
 
-pub and-left : (a b : Bool) → (a && b) ≡ true → a ≡ true
-and-left true b e = refl
-and-left false b e = e
-
-pub and-right : (a b : Bool) → (a && b) ≡ true → b ≡ true
-and-right true b e = e
-and-right false b e = let z : _≡_ {A = ℕ} 0 1 = cc in absurd (omega arith)
-
 entry-from : (rule : ℕ → ℕ) (xs : List ℕ) (i : ℕ) → agrees rule i xs ≡ true → (k : ℕ) → k < length xs → getD xs k 0 ≡ rule (i + k)
 entry-from rule [] i t k h = absurd (omega arith)
-entry-from rule (x ∷ xs) i t zero h = rw add-zero (eqb-true x (rule i) (and-left (eqb x (rule i)) (agrees rule (suc i) xs) t))
+entry-from rule (x ∷ xs) i t zero h = rw add-zero (eqb-true x (rule i) (both-true (eqb x (rule i)) (agrees rule (suc i) xs) t .0))
 entry-from rule (x ∷ xs) i t (suc k) h =
     let e : suc i + k ≡ i + suc k = omega arith in
-    rw e at (entry-from rule xs (suc i) (and-right (eqb x (rule i)) (agrees rule (suc i) xs) t) k (omega arith))
+    rw e at (entry-from rule xs (suc i) (both-true (eqb x (rule i)) (agrees rule (suc i) xs) t .1) k (omega arith))
 
 pub entry : (rule : ℕ → ℕ) (xs : List ℕ) → agrees rule 0 xs ≡ true → (k : ℕ) → k < length xs → getD xs k 0 ≡ rule k
 entry rule xs t k h = let e : 0 + k ≡ k = omega arith in rw e at (entry-from rule xs 0 t k h)

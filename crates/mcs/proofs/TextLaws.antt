@@ -9,7 +9,7 @@ use lib.Dec.{eqb, ltb}
 use lib.ListN.{length, getD}
 use Rattle.mcs.specs.Text.{LF, CR, COLON, digits, hex, Ending, Lf, CrLf, endingText, lineText, AllBytes}
 use Rattle.mcs.specs.Reading.{placeIn, digitOf, isDigit, isEnding, Pairs, Broken, onto, spelledBy, lineSpells}
-use Rattle.mcs.proofs.TableLaws.{and-left, and-right}
+use Rattle.base.proofs.Laws.{both-true}
 use Rattle.mcs.proofs.LineLaws.{not-ending, spelled-end, spelled-one, spelled-pair, spelled-other, spells-colon, spells-other, no-first, no-second, onto-none, onto-some, onto-pairs, none-some, broken-not}
 
 -- Digits.
@@ -21,11 +21,11 @@ below test (suc n) = test n && below test n
 
 at-below : (test : ℕ → Bool) (n : ℕ) → below test n ≡ true → (k : ℕ) → k < n → test k ≡ true
 at-below test zero t k h = absurd (omega arith)
-at-below test (suc n) t k h = go (ltb k n) refl (at-below test n (and-right (test n) (below test n) t) k)
+at-below test (suc n) t k h = go (ltb k n) refl (at-below test n (both-true (test n) (below test n) t .1) k)
   where
     go : (b : Bool) → ltb k n ≡ b → (k < n → test k ≡ true) → test k ≡ true
     go true l ih = ih (ltb-true k n l)
-    go false l ih = let e : k ≡ n = omega (arith, ltb-false k n l) in rw e (and-left (test n) (below test n) t)
+    go false l ih = let e : k ≡ n = omega (arith, ltb-false k n l) in rw e (both-true (test n) (below test n) t .0)
 
 -- the digit of a number below 16 has its value
 digit-value : (n : ℕ) → n < 16 → digitOf (getD digits n 0) ≡ n
@@ -99,7 +99,7 @@ ending-of : (cs : List ℕ) → isEnding cs ≡ true → (e : Ending) × (cs ≡
 unfolding isEnding endingText
 ending-of [] h = let z : _≡_ {A = ℕ} 0 1 = cc in absurd (omega arith)
 ending-of (a ∷ []) h = (Lf, rw (eqb-true a LF h) refl)
-ending-of (a ∷ b ∷ []) h = (CrLf, rw (eqb-true a CR (and-left (eqb a CR) (eqb b LF) h), eqb-true b LF (and-right (eqb a CR) (eqb b LF) h)) refl)
+ending-of (a ∷ b ∷ []) h = (CrLf, rw (eqb-true a CR (both-true (eqb a CR) (eqb b LF) h .0), eqb-true b LF (both-true (eqb a CR) (eqb b LF) h .1)) refl)
 ending-of (a ∷ b ∷ c ∷ cs) h = let z : _≡_ {A = ℕ} 0 1 = cc in absurd (omega arith)
 
 abbrev Spells : List ℕ → List ℕ → Type 0

@@ -4,12 +4,8 @@ use mathlib.Core.Bool.{Bool, true, false, _&&_}
 use mathlib.Core.List.{List, [], _∷_, _++_}
 use lib.Dec.{eqb, ltb, leb}
 use lib.ListN.{length, getD, take, drop}
+unfoldable pub use Rattle.base.specs.Question.{ask}
 use Rattle.mcs.specs.Text.{LF, CR, COLON, digits, Record, Data, Upper, End, total}
-
--- One question: `otherwise` where the answer is no, else what comes next.
-unfoldable pub ask {ℓ} : {A : Type ℓ} → Bool → A → A → A
-ask true otherwise rest = rest
-ask false otherwise rest = otherwise
 
 -- Characters.
 

@@ -22,17 +22,9 @@ use Rattle.packets.specs.declared.writes.WriteAnswer.the-variants.{Refus
 use Rattle.packets.specs.declared.writes.Listing.the-variants.{Open, Refused as ListingRefused}
 use Rattle.packets.specs.declared.image.ImageAnswer.{ImageAnswer}
 use Rattle.packets.specs.declared.image.ImageAnswer.the-variants.{Accepted, Refused}
+use Rattle.base.proofs.Laws.{asked, false-true}
 use Rattle.packets.proofs.ReadingLaws.{counted, Proper, proper, alone-parts}
 use Rattle.packets.proofs.CursorLaws.{given, nth-step}
-
--- Where the answer is not the refusal, the question had a yes, and the rest gave the answer.
-pub asked {ℓ} : {A : Type ℓ} (b : Bool) (refused rest answer : A) → ask b refused rest ≡ answer → (refused ≡ answer → ⊥) → (b ≡ true) × (rest ≡ answer)
-unfolding ask
-asked true refused rest answer e differ = (refl, e)
-asked false refused rest answer e differ = absurd (differ e)
-
-pub false-true : false ≡ true → ⊥
-false-true e = let z : _≡_ {A = ℕ} 0 1 = cc in omega arith
 
 -- what question 1 says of a length, and question 4 of an image's
 pub length-allowed : (n : ℕ) → lengthAllowed n ≡ true → (16384 ≤ n) × (n ≤ 16777216) × (n % 4096 ≡ 0)

@@ -10,34 +10,24 @@ use borrow.Author.Tests.{eqb-true, eq-eqb}
 use lib.Dec.{eqb}
 use lib.ListN.{length, getD, drop, length-drop}
 use lib.Seq.{drop-cons, getD-drop, drop-drop}
+use Rattle.base.proofs.Laws.{false-of, both-true}
 use Rattle.packets.specs.Framing.{syncBytes, starts, find, words}
 use Rattle.packets.specs.declared.framing.Found.the-variants.{At, Nothing}
 
-pub never : {A : Type 0} → false ≡ true → A
-never e = let z : _≡_ {A = ℕ} 0 1 = cc in absurd (omega arith)
-
 -- Where a pattern begins, its bytes stand.
-
-and-left : (a b : Bool) → (a && b) ≡ true → a ≡ true
-and-left true b e = refl
-and-left false b e = e
-
-and-right : (a b : Bool) → (a && b) ≡ true → b ≡ true
-and-right true b e = e
-and-right false b e = never e
 
 pub starts-length : (ps xs : List ℕ) → starts ps xs ≡ true → length ps ≤ length xs
 unfolding starts
 starts-length [] xs e = omega arith
 starts-length (p ∷ ps) [] e = let z : _≡_ {A = ℕ} 0 1 = cc in absurd (omega arith)
-starts-length (p ∷ ps) (x ∷ xs) e = let h : length ps ≤ length xs = starts-length ps xs (and-right (eqb x p) (starts ps xs) e) in omega arith
+starts-length (p ∷ ps) (x ∷ xs) e = let h : length ps ≤ length xs = starts-length ps xs (both-true (eqb x p) (starts ps xs) e .1) in omega arith
 
 pub starts-at : (ps xs : List ℕ) → starts ps xs ≡ true → (j : ℕ) → j < length ps → getD xs j 0 ≡ getD ps j 0
 unfolding starts
 starts-at [] xs e j h = absurd (omega arith)
 starts-at (p ∷ ps) [] e j h = let z : _≡_ {A = ℕ} 0 1 = cc in absurd (omega arith)
-starts-at (p ∷ ps) (x ∷ xs) e zero h = eqb-true x p (and-left (eqb x p) (starts ps xs) e)
-starts-at (p ∷ ps) (x ∷ xs) e (suc j) h = starts-at ps xs (and-right (eqb x p) (starts ps xs) e) j (omega arith)
+starts-at (p ∷ ps) (x ∷ xs) e zero h = eqb-true x p (both-true (eqb x p) (starts ps xs) e .0)
+starts-at (p ∷ ps) (x ∷ xs) e (suc j) h = starts-at ps xs (both-true (eqb x p) (starts ps xs) e .1) j (omega arith)
 
 pub starts-all : (ps xs : List ℕ) → length ps ≤ length xs → ((j : ℕ) → j < length ps → getD xs j 0 ≡ getD ps j 0) → starts ps xs ≡ true
 unfolding starts
@@ -47,10 +37,6 @@ starts-all (p ∷ ps) (x ∷ xs) l h =
     rw (eq-eqb x p (h 0 (omega arith))) (starts-all ps xs (omega arith) (λ j k. h (suc j) (omega arith)))
 
 -- a Bool that is not true is false
-pub false-of : (b : Bool) → (b ≡ true → ⊥) → b ≡ false
-false-of true h = absurd (h refl)
-false-of false h = refl
-
 -- No pattern begins where one of its bytes does not stand, or where too few bytes are left.
 pub starts-differs : (ps xs : List ℕ) (j : ℕ) → j < length ps → (getD xs j 0 ≡ getD ps j 0 → ⊥) → starts ps xs ≡ false
 starts-differs ps xs j h d = false-of (starts ps xs) (λ e. d (starts-at ps xs e j h))

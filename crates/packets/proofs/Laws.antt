@@ -18,11 +18,12 @@ use Rattle.packets.specs.declared.writes.Write.{Write}
 use Rattle.packets.proofs.FramingLaws.{find-here, find-past, find-within, stands-at, words-cons, room}
 use Rattle.packets.proofs.ReadingLaws.{read-ended, read-jump, search-found, search-none, jump-on, alone-parts}
 use Rattle.packets.proofs.PlacementLaws.{find-moved, lookedTo, movedFinish, finish-moved, ended-after}
-pub use Rattle.packets.proofs.FramingLaws.{false-of, starts-at, starts-all, starts-differs, differs-at, word-of}
+pub use Rattle.packets.proofs.FramingLaws.{starts-at, starts-all, starts-differs, differs-at, word-of}
+pub use Rattle.base.proofs.Laws.{false-true, false-of, both-true, asked, asked-yes}
 pub use Rattle.packets.proofs.PlacementLaws.{movedWrite}
 pub use Rattle.packets.proofs.CursorLaws.{told-rest}
 unfoldable pub use Rattle.packets.proofs.AnswerLaws.{onAnswer}
-pub use Rattle.packets.proofs.AnswerLaws.{asked, false-true, length-allowed, by-answer, write-by-answer, listing-by-answer, alone-stays, accepted-reads, accepted-length, accepted-sync, opened-rest, listed-length, chip-steps, image-steps, boots, booted, accepts, whole-writes}
+pub use Rattle.packets.proofs.AnswerLaws.{length-allowed, by-answer, write-by-answer, listing-by-answer, alone-stays, accepted-reads, accepted-length, accepted-sync, opened-rest, listed-length, chip-steps, image-steps, boots, booted, accepts, whole-writes}
 
 -- Places apart, moved writes are the same writes.
 moved-contents : (d : ℕ) (writes : List Write) → contents (map (movedWrite d) writes) ≡ contents writes

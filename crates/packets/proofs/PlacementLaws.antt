@@ -16,7 +16,8 @@ use Rattle.packets.specs.declared.header.Effect.the-variants.{GoesOn, De
 use Rattle.packets.specs.declared.walk.Finish.{Finish}
 use Rattle.packets.specs.declared.walk.Finish.the-variants.{Ended, Iprog, Fault, Short}
 use Rattle.packets.specs.declared.writes.Write.{Write}
-use Rattle.packets.proofs.FramingLaws.{false-of, starts-at, starts-all, find-here, find-next, find-within, word-of, word-after, room}
+use Rattle.base.proofs.Laws.{false-of}
+use Rattle.packets.proofs.FramingLaws.{starts-at, starts-all, find-here, find-next, find-within, word-of, word-after, room}
 use Rattle.packets.proofs.TraceLaws.{trace-none, trace-header, trace-fault, trace-data, trace-desync, trace-iprog}
 
 -- The search: where the same bytes stand, the sync word is found at the same distance.

@@ -2,15 +2,11 @@
 use Prim.Native.Nat.{ℕ, _/_, _%_, _^_}
 use mathlib.Core.Bool.{Bool, true, false}
 use lib.Dec.{eqb, ltb}
+unfoldable pub use Rattle.base.specs.Question.{ask}
 use Rattle.packets.specs.declared.header.Header.{Header}
 use Rattle.packets.specs.declared.header.Header.the-variants.{Nop, Type1, Type2, Fault}
 use Rattle.packets.specs.declared.header.Effect.{Effect}
 use Rattle.packets.specs.declared.header.Effect.the-variants.{GoesOn, Desync, Iprog}
-
--- One question: where the answer is no the refusal, else what is asked next.
-unfoldable pub ask {ℓ} : {A : Type ℓ} → Bool → A → A → A
-ask true refused rest = rest
-ask false refused rest = refused
 
 -- so many bits of a word, from bit `low` up
 abbrev pub field : ℕ → ℕ → ℕ → ℕ

@@ -2,7 +2,7 @@
 // CMD are looked at; of every other register they are counted, and the last WBSTAR word is kept.
 ghost use mathlib.Core.Path.{_≡_};
 ghost use mathlib.Core.Bool.{true};
-ghost use Prim.Native.Nat.{ℕ, _+_, _-_, _*_, _^_, _<_, _≤_, min};
+ghost use Prim.Native.Nat.{ℕ, _+_, _-_, _*_, _^_, _<_, _≤_};
 ghost use lib.ListN.{length, getD, drop};
 ghost use Rattle.packets.specs.Framing.{words, wordAt};
 ghost use Rattle.packets.specs.Packet.{headOf, effectOf};
@@ -21,6 +21,7 @@ use crate::header::WBSTAR;
 use crate::header::effect_of;
 use crate::header::header_of;
 use crate::writes::Write;
+use base::smaller;
 
 // How a reading of packets ends.
 pub(crate) enum Finish {
@@ -64,12 +65,6 @@ pub(crate) struct Walk {
     pub(crate) writes: usize,
     pub(crate) wbstar: u32,
     pub(crate) status: Status,
-}
-
-fn smaller(a: usize, b: usize) -> usize
-    ensures { λ r. ⌜ r ≡ min a b ⌝ }
-{
-    if a < b { a } else { b }
 }
 
 // How many of the first `most` data words leave the reading going on, up to the first that does not.

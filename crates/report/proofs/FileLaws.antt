@@ -12,16 +12,11 @@ use Rattle.mcs.specs.Reading.{Holds, Refused, readText}
 use Rattle.chip.specs.Answers.{builtChip, buildAnswer, outputOf, buildOutput}
 use Rattle.chip.specs.declared.builder.BuildAnswer.{BuildAnswer}
 use Rattle.chip.specs.declared.builder.BuildAnswer.the-variants.{Built, Refused as NotBuilt}
-use Rattle.packets.proofs.Laws.{false-true}
+use Rattle.packets.proofs.Laws.{asked-yes}
 use Rattle.chip.proofs.Laws.{golden-room, built-length}
 use Rattle.report.specs.Lines.{refusedLine, chipReport}
 use Rattle.report.specs.Files.{reportLayout, onBuilt, builtReport, onReading, fileReport}
 use Rattle.report.specs.Answers.{written, filledBy, chipAnswer, chipOutput}
-
-asked-yes : {A : Type 0} (b : Bool) (refused rest : A) → b ≡ true → ask b refused rest ≡ rest
-unfolding ask
-asked-yes true refused rest e = refl
-asked-yes false refused rest e = absurd (false-true e)
 
 usual-length : lengthAllowed 32768 ≡ true
 unfolding lengthAllowed ask

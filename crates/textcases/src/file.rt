@@ -1,9 +1,10 @@
 // Whole files of MCS text, as other tools write them, some longer than 65,536 bytes.
 ghost use mathlib.Core.Path.{_≡_};
-ghost use Prim.Native.Nat.{_≤_, min};
+ghost use Prim.Native.Nat.{_≤_};
 use crate::text::MARK;
 use crate::text::reads_into;
 use crate::text::refuses_into;
+use base::smaller;
 use trial::Tally;
 use trial::front;
 use trial::none;
@@ -135,12 +136,6 @@ fn put_upper(text: &mut [u8], at: usize, i: usize, style: Style) -> usize {
     next = put_pair(text, next, (half / 256 % 256) as u8);
     next = put_pair(text, next, (half % 256) as u8);
     put_sum(text, next, head_sum(2, half, 4), style.cr)
-}
-
-fn smaller(a: usize, b: usize) -> usize
-    ensures { λ r. ⌜ r ≡ min a b ⌝ }
-{
-    if a < b { a } else { b }
 }
 
 // The text of an image; its length.

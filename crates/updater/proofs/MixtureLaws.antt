@@ -12,7 +12,7 @@ use lib.Dec.{eqb}
 use lib.ListN.{length, getD, take, drop}
 use lib.Seq.{length-take-le, getD-take, drop-cons}
 use Rattle.packets.specs.Packet.{ask}
-use Rattle.packets.proofs.Laws.{asked, false-true}
+use Rattle.packets.proofs.Laws.{asked, both-true, false-true}
 use Rattle.chip.specs.Layout.{segment}
 use Rattle.chip.specs.Flash.{span, bit, Mixed, MayLeave}
 use Rattle.chip.proofs.Laws.{span-length, same-bits, bit-most, bit-and}
@@ -40,18 +40,14 @@ unfolding mixture
 mixture-from old ordered new i a b c = rw (drop-cons old i 0 a, drop-cons ordered i 0 b, drop-cons new i 0 c) refl
 
 -- Every byte is a mixture,
-both : (a b : Bool) → (a && b) ≡ true → (a ≡ true) × (b ≡ true)
-both true b e = (refl, e)
-both false b e = absurd (false-true e)
-
 mixture-bytes : (old ordered new : List ℕ) → length old ≡ length new → length ordered ≡ length new → mixture old ordered new ≡ true →
     (i : ℕ) → i < length new → mixes (getD old i 0) (getD ordered i 0) (getD new i 0) ≡ true
 unfolding mixture
 mixture-bytes old ordered [] p q e i h = absurd (omega arith)
 mixture-bytes [] ordered (c ∷ new) p q e i h = absurd (omega arith)
 mixture-bytes (a ∷ old) [] (c ∷ new) p q e i h = absurd (omega arith)
-mixture-bytes (a ∷ old) (b ∷ ordered) (c ∷ new) p q e zero h = both (mixes a b c) (mixture old ordered new) e .0
-mixture-bytes (a ∷ old) (b ∷ ordered) (c ∷ new) p q e (suc i) h = mixture-bytes old ordered new (omega arith) (omega arith) (both (mixes a b c) (mixture old ordered new) e .1) i (omega arith)
+mixture-bytes (a ∷ old) (b ∷ ordered) (c ∷ new) p q e zero h = both-true (mixes a b c) (mixture old ordered new) e .0
+mixture-bytes (a ∷ old) (b ∷ ordered) (c ∷ new) p q e (suc i) h = mixture-bytes old ordered new (omega arith) (omega arith) (both-true (mixes a b c) (mixture old ordered new) e .1) i (omega arith)
 
 -- and that is all.
 bytes-mixture : (old ordered new : List ℕ) → length old ≡ length new → length ordered ≡ length new →

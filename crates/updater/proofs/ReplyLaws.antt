@@ -12,7 +12,7 @@ use Rattle.packets.specs.Packet.{ask}
 use Rattle.packets.specs.Answers.{aloneCase}
 use Rattle.packets.specs.declared.reader.Outcome.{Outcome}
 use Rattle.packets.specs.declared.reader.Outcome.the-variants.{Loaded, Iprog, Stuck}
-use Rattle.packets.proofs.Laws.{asked, false-true}
+use Rattle.packets.proofs.Laws.{asked, both-true, false-true}
 use Rattle.chip.specs.Layout.{askLayout}
 use Rattle.chip.specs.Kind.{Kind, LoadsAlone, Lawful}
 use Rattle.chip.specs.declared.kind.Layout.{Layout}
@@ -112,10 +112,6 @@ unfolding startAnswer askRun askLayout aloneCase ask
 starts kind layout image numbers alone = rw (numbers .long, numbers .starts, numbers .spans, numbers .image, alone .reading) refl
 
 -- Question 8 with a yes.
-both-true : (a b : Bool) → (a && b) ≡ true → (a ≡ true) × (b ≡ true)
-both-true true b e = (refl, e)
-both-true false b e = absurd (false-true e)
-
 asked-for : (what count said lent : ℕ) → asksFor what count said lent ≡ true → (said ≡ what) × (lent ≡ count)
 asked-for what count said lent e = let b = both-true (eqb said what) (eqb lent count) e in (eqb-true said what (b .0), eqb-true lent count (b .1))
 

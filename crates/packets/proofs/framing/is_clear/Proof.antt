@@ -4,10 +4,10 @@ use mathlib.Core.Path.{_≡_, sym, _∙_}
 use mathlib.Core.Bool.{true}
 use mathlib.Core.Logic.{⊎-elim}
 use native.Mathlib.Omega.{arith}
+use Rattle.base.proofs.Laws.{false-true}
 use borrow.Author.Count.{below-more}
 use lib.ListN.{getD}
 use Rattle.packets.specs.Framing.{syncBytes}
-use Rattle.packets.proofs.FramingLaws.{never}
 use Rattle.packets.proofs.framing.is_clear.Statement.{statement}
 use Rattle.packets.proofs.framing.is_clear.Tie as tie
 
@@ -35,7 +35,7 @@ loop-less c = omega arith
 loop-again : tie.Need-loop-again Inv-loop μ-loop
 loop-again c = (
   omega arith,
-  ⊎-elim (λ v e. never (sym (v .1) ∙ e)) (λ v e. below-more _ _ (c .before .before .before .loop .inv .1 (sym (v .1) ∙ e)) (v .0 .left)) (c .if1 .came),
+  ⊎-elim (λ v e. absurd (false-true (sym (v .1) ∙ e))) (λ v e. below-more _ _ (c .before .before .before .loop .inv .1 (sym (v .1) ∙ e)) (v .0 .left)) (c .if1 .came),
 )
 
 returns : tie.Need-returns Inv-loop μ-loop

@@ -1,24 +1,25 @@
 -- `walk::may_pass` meets its contract.
 use mathlib.Core.Path.{_≡_, sym, ap, _∙_}
 use native.Mathlib.Omega.{arith}
+use Rattle.base.proofs.Laws.{false-true}
 use Rattle.packets.specs.Packet.{effectOf}
-use Rattle.packets.proofs.FramingLaws.{never, room}
+use Rattle.packets.proofs.FramingLaws.{room}
 use Rattle.packets.proofs.WalkLaws.{other-quiet}
 use borrow.Author.Needs.{needs}
 use Rattle.packets.proofs.walk.may_pass.Statement.{statement}
 use Rattle.packets.proofs.walk.may_pass.Tie as tie
 
 returns : tie.Need-returns
-returns c = λ e. never e
+returns c = λ e. absurd (false-true e)
 
 returns-2 : tie.Need-returns-2
-returns-2 c = λ e. never e
+returns-2 c = λ e. absurd (false-true e)
 
 returns-3 : tie.Need-returns-3
 returns-3 c = λ e. (omega arith, omega arith, λ i h. other-quiet _ _ (c .if3 .taken))
 
 returns-4 : tie.Need-returns-4
-returns-4 c = λ e. never e
+returns-4 c = λ e. absurd (false-true e)
 
 word-at-requires : tie.Need-word-at-requires
 word-at-requires c κs = omega (arith, c .before .before .before .before .before .pre (omega arith), room (c .before .before .before .before .before .args .s .now) (c .before .before .before .before .before .args .at))
@@ -30,7 +31,7 @@ enum-told : tie.Need-enum-told
 enum-told c = search needs
 
 returns-5 : tie.Need-returns-5
-returns-5 c = λ e. never e
+returns-5 c = λ e. absurd (false-true e)
 
 returns-6 : tie.Need-returns-6
 returns-6 c = λ e. (

@@ -1,0 +1,220 @@
+/* The boot answer and the image check on 16 MiB, beside the word-by-word reader, and beside memmem where all
+ * that is to be done is the search. */
+#define _GNU_SOURCE
+#include "bench.h"
+#include "plain.h"
+
+#include <stdlib.h>
+#include <string.h>
+
+#include "../include/tealsettle.h"
+
+enum { FDRI = 2, CMD = 4, NOP = 0x20000000 };
+
+/* ---- Inputs ---- */
+
+/* Words are put down from the front on; 8 bytes at the end are kept for DESYNC. */
+typedef struct {
+    uint8_t *bytes;
+    size_t at, length, packets;
+} Stream;
+
+static void put_word(Stream *s, uint32_t word)
+{
+    uint32_t high_first = __builtin_bswap32(word);
+    memcpy(s->bytes + s->at, &high_first, 4);
+    s->at += 4;
+}
+
+static size_t words_left(const Stream *s)
+{
+    return (s->length - 8 - s->at) / 4;
+}
+
+static Stream begin(uint8_t *bytes, size_t length)
+{
+    Stream s = {bytes, 0, length, 0};
+    put_word(&s, 0xAA995566u);
+    return s;
+}
+
+/* No-operations up to the end, and DESYNC there. */
+static size_t end(Stream *s)
+{
+    for (; words_left(s) > 0; s->packets++)
+        put_word(s, NOP);
+    put_word(s, 0x30000000u | CMD << 13 | 1);
+    put_word(s, 0x0000000D);
+    return s->packets + 1;
+}
+
+static void put_packet(Stream *s, uint32_t reg, uint32_t count)
+{
+    put_word(s, 0x30000000u | reg << 13 | count);
+    for (; count > 0; count--)
+        put_word(s, reg == CMD ? (uint32_t)below(13) : (uint32_t)next_random());
+    s->packets++;
+}
+
+static uint32_t some_register(void)
+{
+    uint32_t reg = (uint32_t)below(31);
+    return reg < CMD ? reg : reg + 1; /* any but CMD */
+}
+
+void make_long_packet(uint8_t *bytes, size_t length)
+{
+    Stream s = begin(bytes, length);
+    put_packet(&s, FDRI, 0);
+    put_word(&s, 0x50000000u | (uint32_t)(words_left(&s) - 1));
+    while (words_left(&s) > 0)
+        put_word(&s, (uint32_t)next_random());
+    end(&s);
+}
+
+static size_t make_long(uint8_t *chip)
+{
+    make_long_packet(chip, MIB16);
+    return 0;
+}
+
+static size_t make_small(uint8_t *chip)
+{
+    Stream s = begin(chip, MIB16);
+    while (words_left(&s) >= 2)
+        put_packet(&s, some_register(), 1);
+    return end(&s);
+}
+
+static size_t make_nops(uint8_t *chip)
+{
+    Stream s = begin(chip, MIB16);
+    return end(&s);
+}
+
+static size_t make_commands(uint8_t *chip)
+{
+    Stream s = begin(chip, MIB16);
+    while (words_left(&s) >= 2)
+        put_packet(&s, CMD, 1);
+    return end(&s);
+}
+
+static size_t make_mixed(uint8_t *chip)
+{
+    Stream s = begin(chip, MIB16);
+    while (words_left(&s) >= 9)
+        if (below(4) == 0)
+            put_word(&s, NOP), s.packets++;
+        else
+            put_packet(&s, (uint32_t)below(32), (uint32_t)below(9));
+    return end(&s);
+}
+
+static size_t make_erased(uint8_t *chip)
+{
+    memset(chip, 0xFF, MIB16);
+    return 0;
+}
+
+/* Random bytes in which no sync word stands. */
+static size_t make_noise(uint8_t *chip)
+{
+    uint8_t *sync;
+    for (size_t i = 0; i < MIB16; i++)
+        chip[i] = (uint8_t)next_random();
+    while ((sync = memmem(chip, MIB16, "\xAA\x99\x55\x66", 4)) != NULL)
+        *sync = 0;
+    return 0;
+}
+
+/* ---- Jobs ---- */
+
+typedef struct {
+    const uint8_t *chip;
+    PlainBoot boot;
+} Call;
+
+static Answer answer(void *context)
+{
+    PlainBoot *b = &((Call *)context)->boot;
+    return (Answer){{"number", "place", "stuck", "jumped", "sync", "end", "writes"},
+                    {b->number, b->place, (size_t)b->stuck, (size_t)b->jumped, b->sync, b->end, b->writes}};
+}
+
+static int ours_boot(void *context)
+{
+    Call *c = context;
+    TealsettleBoot r = tealsettle_boot(TEALSETTLE_SPI, c->chip, MIB16);
+    c->boot = (PlainBoot){r.number, r.place, (int)r.stuck, (int)r.jumped, r.sync, r.end, r.writes};
+    return 1;
+}
+
+static int plain_boot_job(void *context)
+{
+    Call *c = context;
+    c->boot = plain_boot(c->chip, MIB16);
+    return 1;
+}
+
+/* Only for chips without a sync word: then the search is the whole job. */
+static int memmem_job(void *context)
+{
+    Call *c = context;
+    const uint8_t *sync = memmem(c->chip, MIB16, "\xAA\x99\x55\x66", 4);
+    c->boot = sync ? (PlainBoot){.sync = (size_t)(sync - c->chip)} : (PlainBoot){.place = MIB16, .stuck = 1};
+    return 1;
+}
+
+static int ours_image(void *context)
+{
+    Call *c = context;
+    TealsettleImage r = tealsettle_image_check(TEALSETTLE_SPI, c->chip, MIB16);
+    c->boot = (PlainBoot){r.number, r.place, 0, 0, r.sync, r.end, r.writes};
+    return 1;
+}
+
+static int plain_image_job(void *context)
+{
+    Call *c = context;
+    c->boot = plain_image_check(c->chip, MIB16, MIB16);
+    return 1;
+}
+
+/* ---- Rows ---- */
+
+typedef struct {
+    const char *name;
+    size_t (*make)(uint8_t *chip); /* how many packets there are, where it matters */
+    int (*ours)(void *), (*peer)(void *);
+    const char *peer_name;
+    double goal;
+} Job;
+
+static const Job JOBS[] = {
+    {"boot: one long type 2 packet", make_long, ours_boot, plain_boot_job, "plain C", 100},
+    {"boot: small packets", make_small, ours_boot, plain_boot_job, "plain C", AS_PLAIN},
+    {"boot: no-operations", make_nops, ours_boot, plain_boot_job, "plain C", AS_PLAIN},
+    {"boot: small packets of CMD", make_commands, ours_boot, plain_boot_job, "plain C", AS_PLAIN},
+    {"boot: packets of 0 to 8 words, NOPs", make_mixed, ours_boot, plain_boot_job, "plain C", AS_PLAIN},
+    {"boot: no sync, erased", make_erased, ours_boot, plain_boot_job, "plain C", AS_PLAIN},
+    {"boot: no sync, erased", make_erased, ours_boot, memmem_job, "memmem", AS_PLAIN},
+    {"boot: no sync, random bytes", make_noise, ours_boot, plain_boot_job, "plain C", AS_PLAIN},
+    {"boot: no sync, random bytes", make_noise, ours_boot, memmem_job, "memmem", AS_PLAIN},
+    {"image check: one long type 2 packet", make_long, ours_image, plain_image_job, "plain C", 100},
+    {"image check: small packets", make_small, ours_image, plain_image_job, "plain C", AS_PLAIN},
+};
+
+void boot_rows(void)
+{
+    uint8_t *chip = buffer(MIB16);
+    Call ours = {chip, {0}}, peer = {chip, {0}};
+    for (size_t i = 0; i < sizeof JOBS / sizeof *JOBS; i++) {
+        const Job *j = &JOBS[i];
+        size_t packets = j->make(chip);
+        Row row = {j->name, MIB16, packets, "packets", j->goal, {"tealsettle", j->ours, answer, &ours},
+                   {j->peer_name, j->peer, answer, &peer}};
+        table_row(&row);
+    }
+    free(chip);
+}

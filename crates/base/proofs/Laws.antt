@@ -1,0 +1,28 @@
+-- Laws of yes and no, and of a question.
+use Prim.Native.Nat.{ℕ}
+use mathlib.Core.Path.{_≡_, refl}
+use mathlib.Core.Bool.{Bool, true, false, _&&_}
+use native.Mathlib.Omega.{arith}
+use Rattle.base.specs.Question.{ask}
+
+pub false-true : false ≡ true → ⊥
+false-true e = let z : _≡_ {A = ℕ} 0 1 = cc in omega arith
+
+pub false-of : (b : Bool) → (b ≡ true → ⊥) → b ≡ false
+false-of true h = absurd (h refl)
+false-of false h = refl
+
+pub both-true : (a b : Bool) → (a && b) ≡ true → (a ≡ true) × (b ≡ true)
+both-true true b e = (refl, e)
+both-true false b e = absurd (false-true e)
+
+-- Where the answer is not the refusal, the question had a yes, and the rest gave the answer.
+pub asked {ℓ} : {A : Type ℓ} (b : Bool) (refused rest answer : A) → ask b refused rest ≡ answer → (refused ≡ answer → ⊥) → (b ≡ true) × (rest ≡ answer)
+unfolding ask
+asked true refused rest answer e differ = (refl, e)
+asked false refused rest answer e differ = absurd (differ e)
+
+pub asked-yes : {A : Type 0} (b : Bool) (refused rest : A) → b ≡ true → ask b refused rest ≡ rest
+unfolding ask
+asked-yes true refused rest e = refl
+asked-yes false refused rest e = absurd (false-true e)
