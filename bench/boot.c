@@ -78,12 +78,28 @@ static size_t make_long(uint8_t *chip)
     return 0;
 }
 
-static size_t make_small(uint8_t *chip)
+/* Packets of so many data words each, of any register but CMD. */
+static size_t make_equal(uint8_t *chip, uint32_t count)
 {
     Stream s = begin(chip, MIB16);
-    while (words_left(&s) >= 2)
-        put_packet(&s, some_register(), 1);
+    while (words_left(&s) > count)
+        put_packet(&s, some_register(), count);
     return end(&s);
+}
+
+static size_t make_ones(uint8_t *chip)
+{
+    return make_equal(chip, 1);
+}
+
+static size_t make_twos(uint8_t *chip)
+{
+    return make_equal(chip, 2);
+}
+
+static size_t make_threes(uint8_t *chip)
+{
+    return make_equal(chip, 3);
 }
 
 static size_t make_nops(uint8_t *chip)
@@ -193,16 +209,18 @@ typedef struct {
 
 static const Job JOBS[] = {
     {"boot: one long type 2 packet", make_long, ours_boot, plain_boot_job, "plain C", 100},
-    {"boot: small packets", make_small, ours_boot, plain_boot_job, "plain C", AS_PLAIN},
+    {"boot: packets of 1 word", make_ones, ours_boot, plain_boot_job, "plain C", AS_PLAIN},
+    {"boot: packets of 2 words", make_twos, ours_boot, plain_boot_job, "plain C", AS_PLAIN},
+    {"boot: packets of 3 words", make_threes, ours_boot, plain_boot_job, "plain C", AS_PLAIN},
     {"boot: no-operations", make_nops, ours_boot, plain_boot_job, "plain C", AS_PLAIN},
-    {"boot: small packets of CMD", make_commands, ours_boot, plain_boot_job, "plain C", AS_PLAIN},
+    {"boot: packets of 1 word of CMD", make_commands, ours_boot, plain_boot_job, "plain C", AS_PLAIN},
     {"boot: packets of 0 to 8 words, NOPs", make_mixed, ours_boot, plain_boot_job, "plain C", AS_PLAIN},
     {"boot: no sync, erased", make_erased, ours_boot, plain_boot_job, "plain C", AS_PLAIN},
     {"boot: no sync, erased", make_erased, ours_boot, memmem_job, "memmem", AS_PLAIN},
     {"boot: no sync, random bytes", make_noise, ours_boot, plain_boot_job, "plain C", AS_PLAIN},
     {"boot: no sync, random bytes", make_noise, ours_boot, memmem_job, "memmem", AS_PLAIN},
     {"image check: one long type 2 packet", make_long, ours_image, plain_image_job, "plain C", 100},
-    {"image check: small packets", make_small, ours_image, plain_image_job, "plain C", AS_PLAIN},
+    {"image check: packets of 1 word", make_ones, ours_image, plain_image_job, "plain C", AS_PLAIN},
 };
 
 void boot_rows(void)

@@ -255,8 +255,8 @@ fn past_data(s: &[u8], w: Walk, register: u32, count: usize, room: usize) -> Wal
     after_packet(s, after_header(w, register, count, true))
 }
 
-// The walk after the packet whose header is `word`, the word at its place; or as it was. Most packets have
-// one data word: these are told apart so that the next place does not wait for the count.
+// The walk after the packet whose header is `word`, the word at its place; or as it was. Packets of one
+// and of two data words are told apart, so that there the next place does not wait for the count.
 fn past_packet(s: &[u8], w: Walk, word: u32) -> Walk
     requires { ⌜ AtHeader w × (w .at + 8 ≤ length (now s)) × (word ≡ wordAt (now s) (w .at)) ⌝ }
     ensures { λ r. ⌜ Past (now (s .entry)) w r ⌝ }
@@ -272,6 +272,9 @@ fn past_packet(s: &[u8], w: Walk, word: u32) -> Walk
         return past_data(s, w, register, 1, w.skip);
     }
     let room = smaller(w.skip, words_from(s, w.at + 4));
+    if count == 2 {
+        return past_data(s, w, register, 2, room);
+    }
     past_data(s, w, register, count as usize, room)
 }
 

@@ -48,21 +48,34 @@ words-from-requires c κs = search needs
 smaller-requires : tie.Need-smaller-requires
 smaller-requires c κs = search needs
 
-cast-past-data : tie.Need-cast-past-data
-cast-past-data c = search needs
-
 past-data-requires-2 : tie.Need-past-data-requires-2
 past-data-requires-2 c κs =
-    let p = c .before .before .before .before .before .before .before .before .before .before .pre in (
+    let p = c .before .before .before .before .before .before .before .before .before .before .before .pre in (
       p .0,
       omega (arith, p .1),
-      ap headOf (sym (p .2)) ∙ sym (c .before .before .before .before .before .before .before .header-of .ensures) ∙ c .before .before .before .before .before .header .given .1,
-      omega (arith, c .smaller .ensures),
-      λ h. omega (arith, h, c .smaller .ensures, c .before .words-from .ensures),
+      ap headOf (sym (p .2)) ∙ sym (c .before .before .before .before .before .before .before .before .header-of .ensures) ∙ (rw (c .if3 .taken) at (c .before .before .before .before .before .before .header .given .1)),
+      omega (arith, c .before .smaller .ensures),
+      λ h. omega (arith, h, c .before .smaller .ensures, c .before .before .words-from .ensures),
     )
 
 returns-4 : tie.Need-returns-4
 returns-4 c = search needs
+
+cast-past-data : tie.Need-cast-past-data
+cast-past-data c = search needs
+
+past-data-requires-3 : tie.Need-past-data-requires-3
+past-data-requires-3 c κs =
+    let p = c .before .before .before .before .before .before .before .before .before .before .before .pre in (
+      p .0,
+      omega (arith, p .1),
+      ap headOf (sym (p .2)) ∙ sym (c .before .before .before .before .before .before .before .before .header-of .ensures) ∙ c .before .before .before .before .before .before .header .given .1,
+      omega (arith, c .before .smaller .ensures),
+      λ h. omega (arith, h, c .before .smaller .ensures, c .before .before .words-from .ensures),
+    )
+
+returns-5 : tie.Need-returns-5
+returns-5 c = search needs
 
 pub past-packet-spec : {M : Type 1} → statement M
 past-packet-spec =
@@ -78,6 +91,8 @@ past-packet-spec =
     add-words-from
     words-from-requires
     smaller-requires
-    cast-past-data
     past-data-requires-2
-    returns-4)
+    returns-4
+    cast-past-data
+    past-data-requires-3
+    returns-5)
