@@ -10,7 +10,7 @@ use lib.ListN.{length, getD, getD-replicate}
 use lib.Seq.{ext-getD}
 use Rattle.packets.proofs.Laws.{length-allowed}
 use Rattle.chip.specs.Layout.{segment, switchAt, goldenAt}
-use Rattle.chip.specs.Flash.{erased, span, over, cleared, afterErase, afterProgram, bit, MayLeave}
+use Rattle.chip.specs.Flash.{erased, span, over, cleared, afterProgram, bit, MayLeave}
 use Rattle.chip.specs.Kind.{Kind, switchWord, goldenArea, Covers, LoadsAlone, Good}
 use Rattle.chip.proofs.FlashLaws.{erased-length, cleared-length, cleared-at, span-at, span-length, over-length, over-before, over-inside, over-after}
 use Rattle.chip.proofs.BitLaws.{same-bits, all-ones, bit-most, bit-and}
@@ -66,7 +66,7 @@ module _ (kind : Kind) (update : ℕ) (chip : List ℕ) (good : Good kind update
   }
 
   -- An erase of segment 0 only raises bits of the switch word.
-  pub erase-good : (new : List ℕ) → MayLeave chip 0 (afterErase segment) new → Good kind update (over chip 0 new) × Covers (switchWord (over chip 0 new)) (switchWord chip)
+  pub erase-good : (new : List ℕ) → MayLeave chip 0 (erased segment) new → Good kind update (over chip 0 new) × Covers (switchWord (over chip 0 new)) (switchWord chip)
   erase-good new may = (stays-good (over chip 0 new) (over-length chip 0 new fits) blank (covers (kind .on) (good .switch .has)) outside, covers (switchWord chip) (λ j h n m. omega arith))
     where
       all : length new ≡ segment

@@ -37,7 +37,7 @@ switchAnswer chip = ask (lengthAllowed (length chip)) (SwitchRefused 1 0) (switc
 abbrev pub builtChip : Layout → List ℕ → List ℕ
 builtChip layout golden = over (over (erased (layout .length)) segment (spiHeader (layout .update))) goldenAt golden
 
--- `builder::build`: questions 1 to 3; 4, for the golden area; 5; then 13, whether the chip fits into the buffer
+-- `builder::build`: questions 1 to 3; 4, for the golden area; 5; then 13 (refusal 19), whether the chip fits into the buffer
 unfoldable pub goldenAnswer : Layout → List ℕ → ℕ → BuildAnswer
 goldenAnswer layout golden room =
     askImage (layout .update - goldenAt) Refused (λ sync end writes. ask (leb (layout .length) room) (Refused 19 0) Built) golden

@@ -9,7 +9,7 @@ use lib.ListN.{length, getD, take, drop, replicate}
 use Rattle.packets.specs.Packet.{ask}
 use Rattle.chip.specs.Layout.{segment}
 
--- so many bytes FF
+-- so many bytes FF: an erase sets its span to them
 abbrev pub erased : ℕ → List ℕ
 erased count = replicate count 0xFF
 
@@ -31,10 +31,7 @@ cleared (old ∷ more) (byte ∷ bytes) = bitAnd old byte ∷ cleared more bytes
 cleared [] bytes = []
 cleared (old ∷ more) [] = []
 
--- What an obeying chip's span holds after an erase, and after a program.
-abbrev pub afterErase : ℕ → List ℕ
-afterErase count = erased count
-
+-- What an obeying chip's span holds after a program; after an erase it is `erased`.
 abbrev pub afterProgram : List ℕ → ℕ → List ℕ → List ℕ
 afterProgram chip place bytes = cleared (span chip place (length bytes)) bytes
 

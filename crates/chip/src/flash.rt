@@ -3,7 +3,7 @@ ghost use mathlib.Core.Path.{_≡_};
 ghost use Prim.Native.Nat.{_+_};
 ghost use lib.Dec.{leb};
 ghost use lib.ListN.{length};
-ghost use Rattle.chip.specs.Flash.{afterErase, afterProgram, within};
+ghost use Rattle.chip.specs.Flash.{erased, afterProgram, within};
 
 // Whether a span lies within so many bytes. Asked of what is left after its place, so that no sum can wrap.
 fn lies_within(length: usize, place: usize, count: usize) -> bool
@@ -17,7 +17,7 @@ fn lies_within(length: usize, place: usize, count: usize) -> bool
 
 // An erase sets every byte of its span to FF.
 pub fn erase(chip: &mut [u8], place: usize, count: usize)
-    ensures { λ r. ⌜ now (chip .exit) ≡ within (now (chip .entry)) place count (afterErase count) ⌝ }
+    ensures { λ r. ⌜ now (chip .exit) ≡ within (now (chip .entry)) place count (erased count) ⌝ }
 {
     if !lies_within(chip.len(), place, count) {
         return;

@@ -10,7 +10,7 @@ use lib.ListN.{length, take}
 use lib.Seq.{take-length}
 use native.Mathlib.Nat.{zero-add}
 use Rattle.packets.specs.Packet.{ask}
-use Rattle.packets.specs.Reading.{modeOf, traceFrom, finishFrom, writesFrom, readFrom, readChip, readAlone, listed, contents, LoadsWhole, nthWrite, contentOf}
+use Rattle.packets.specs.Reading.{modeOf, traceFrom, finishFrom, writesFrom, readFrom, readChip, readAlone, listed, contents, nthWrite, contentOf}
 use Rattle.packets.specs.Cursor.{cursorAt, rest, stepOf, nthStep}
 use Rattle.packets.specs.Answers.{lengthAllowed, imageLength, longestImage, bootCase, bootAnswer, aloneCase, askImage, cursorOf, chipWrite, imageAnswer, imageWrite, imageListing}
 use Rattle.packets.specs.declared.reader.Outcome.{Outcome}
@@ -162,7 +162,7 @@ nth-content (w ∷ a) [] i e = let z : _≡_ {A = ℕ} 0 1 = cc in absurd (omega
 nth-content (v ∷ a) (w ∷ b) zero e = let q : _≡_ {A = ℕ × ℕ} (v .register, v .word) (w .register, w .word) = cc in ap (λ (p : ℕ × ℕ). some p) q
 nth-content (v ∷ a) (w ∷ b) (suc i) e = nth-content a b i cc
 
-pub whole-writes : (chip image : List ℕ) (sync end writes : ℕ) → lengthAllowed (length chip) ≡ true → imageAnswer image ≡ Accepted sync end writes → LoadsWhole chip image →
+pub whole-writes : (chip image : List ℕ) (sync end writes : ℕ) → lengthAllowed (length chip) ≡ true → imageAnswer image ≡ Accepted sync end writes → contents (listed chip (readChip chip)) ≡ contents (listed image (readAlone image)) →
     (i : ℕ) → contentOf (chipWrite chip i) ≡ contentOf (imageWrite image i)
 unfolding chipWrite imageAnswer onAnswer ask listed
 whole-writes chip image sync end writes l e same i =

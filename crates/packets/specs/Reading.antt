@@ -141,10 +141,6 @@ listed bytes (Stuck place) = []
 abbrev pub contents : List Write → List (ℕ × ℕ)
 contents writes = map (λ w. (w .register, w .word)) writes
 
--- A chip loads an image whole: the list, places apart, is the list of the image read alone.
-abbrev pub LoadsWhole : List ℕ → List ℕ → Type 0
-LoadsWhole chip image = contents (listed chip (readChip chip)) ≡ contents (listed image (readAlone image))
-
 -- the i-th, counted from 0, or that there is none
 unfoldable pub nthWrite : List Write → ℕ → WriteAnswer
 nthWrite [] i = Nothing

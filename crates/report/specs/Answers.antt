@@ -25,7 +25,7 @@ refusalAnswer number place room = written (refusedLine number place) room
 abbrev pub refusalOutput : ℕ → ℕ → List ℕ → List ℕ
 refusalOutput number place buffer = filledBy (refusedLine number place) buffer
 
--- `boot::report`: question 1, then 19
+-- `boot::report`: question 1, then 13 (refusal 19)
 unfoldable pub chipAnswer : List ℕ → ℕ → ReportAnswer
 chipAnswer chip room = ask (lengthAllowed (length chip)) (Refused 1 0) (written (chipReport chip) room)
 

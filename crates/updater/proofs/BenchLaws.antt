@@ -14,7 +14,7 @@ use Rattle.packets.specs.declared.reader.Outcome.{Outcome}
 use Rattle.packets.specs.declared.reader.Outcome.the-variants.{Loaded, Iprog, Stuck}
 use Rattle.packets.proofs.Laws.{length-allowed}
 use Rattle.chip.specs.Layout.{page, segment, switchAt, updateAllowed, areaAllowed, askLayout}
-use Rattle.chip.specs.Flash.{erased, span, within, cleared, afterErase, afterProgram}
+use Rattle.chip.specs.Flash.{erased, span, within, cleared, afterProgram}
 use Rattle.chip.specs.Kind.{Kind, Lawful, spi, spiOn}
 use Rattle.chip.specs.declared.kind.Layout.{Layout}
 use Rattle.chip.proofs.Laws.{update-allowed, area-allowed, span-at, span-length, over-length, over-before, over-inside, within-over, erased-length, cleared-length, spi-lawful}
@@ -137,7 +137,7 @@ span-size (look place bytes) chip h = span-length chip place (length bytes) h
 
 pub obeyed-length : (o : Order) (chip : List ℕ) → placeOf o + spanOf o ≤ length chip → length (obeyed o chip) ≡ length chip
 unfolding placeOf spanOf obeyedSpan leaves
-obeyed-length (erase place count) chip h = let n = span-size (erase place count) chip h in over-length chip place (afterErase count) (omega arith)
+obeyed-length (erase place count) chip h = let n = span-size (erase place count) chip h in over-length chip place (erased count) (omega arith)
 obeyed-length (program place bytes) chip h = let n = span-size (program place bytes) chip h in over-length chip place (afterProgram chip place bytes) (omega arith)
 obeyed-length (look place bytes) chip h = refl
 
@@ -320,14 +320,14 @@ module _ (layout : Layout) (image chip damage : List ℕ) (fit : fits (first lay
 
 -- What the code does to a chip for an operation,
 unfoldable pub doneBy : Operation → List ℕ → List ℕ → List ℕ
-doneBy (Erase place count) bytes chip = within chip place count (afterErase count)
+doneBy (Erase place count) bytes chip = within chip place count (erased count)
 doneBy (Program place count) bytes chip = within chip place (length (take count bytes)) (afterProgram chip place (take count bytes))
 doneBy (Look place count) bytes chip = chip
 
 -- is what its order asks for.
 pub obeyed-done : (o : Order) (chip : List ℕ) → placeOf o + spanOf o ≤ length chip → obeyed o chip ≡ doneBy (operationOf o) (orderBytes o) chip
 unfolding placeOf spanOf obeyedSpan leaves programmed operationOf doneBy
-obeyed-done (erase place count) chip h = sym (within-over chip place count (afterErase count) h)
+obeyed-done (erase place count) chip h = sym (within-over chip place count (erased count) h)
 obeyed-done (program place bytes) chip h =
     let e : take (length bytes) (orderBytes (program place bytes)) ≡ bytes = take-append-seam bytes (erased (page - length bytes)) in
     sym (ap (λ (l : List ℕ). within chip place (length l) (afterProgram chip place l)) e ∙ within-over chip place (length bytes) (afterProgram chip place bytes) h)

@@ -12,7 +12,7 @@ use lib.ListN.{length, getD, drop, length-take, length-drop, getD-replicate}
 use lib.Seq.{ext-getD}
 use Rattle.packets.proofs.Laws.{false-true, length-allowed}
 use Rattle.chip.specs.Layout.{page, segment, switchAt}
-use Rattle.chip.specs.Flash.{erased, span, over, afterErase, afterProgram, MayLeave}
+use Rattle.chip.specs.Flash.{erased, span, over, afterProgram, MayLeave}
 use Rattle.chip.specs.Kind.{Kind, switchWord, goldenArea, Covers, LoadsAlone, Good, Stands, Lawful}
 use Rattle.chip.specs.declared.kind.Layout.{Layout}
 use Rattle.chip.proofs.Laws.{getD-any, span-at, span-length, over-length, over-before, over-after, erased-length, cleared-length, update-allowed, area-allowed, golden-stays, erase-good, program-good, area-switch, area-good}
@@ -189,7 +189,7 @@ module _ (kind : Kind) (lawful : Lawful kind) (update : ℕ) (area : List ℕ) w
     }
 
     -- PHASE 0: an erase of segment 0. The switch can only go off.
-    erases-switch : run .state .phase ≡ 0 → MayLeave (w .chip) 0 (afterErase segment) left → Invariant kind update area (worldAfter (over (w .chip) 0 left) (w .looks) (w .ordered) (w .image))
+    erases-switch : run .state .phase ≡ 0 → MayLeave (w .chip) 0 (erased segment) left → Invariant kind update area (worldAfter (over (w .chip) 0 left) (w .looks) (w .ordered) (w .image))
     unfolding onRun Stage byPhase
     erases-switch p may = record {
       good = kept .0;

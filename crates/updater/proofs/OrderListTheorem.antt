@@ -12,10 +12,11 @@ use Rattle.chip.proofs.Laws.{erased-length, update-allowed}
 use Rattle.updater.specs.Run.{byPhase, count, before, position}
 use Rattle.updater.specs.Orders.{Order, pageOf, orderOf}
 use Rattle.updater.specs.Effects.{placeOf}
+use Rattle.updater.specs.Answers.{read}
 use Rattle.updater.specs.OrderList.{spanOf, InReach, OnePage, Demand2}
-use Rattle.updater.proofs.RunLaws.{phases, Numbers, numbers-image, fits-says, running-says, area-segments, image-pages, area-pages, after-position, position-ended}
+use Rattle.updater.proofs.RunLaws.{phases, Numbers, numbers-image, fits-says, running-says, area-segments, image-pages, area-pages, after-position, position-running, position-ended}
 use Rattle.updater.proofs.OrderLaws.{orders-length, current-order, filled-length}
-use Rattle.updater.proofs.ReplyLaws.{moved, halted, moves}
+use Rattle.updater.proofs.ReplyLaws.{moved, halted, halts, moves}
 
 -- how long a page of an image is
 page-most : (image : List ℕ) (i : ℕ) → page * i < length image → (1 ≤ length (pageOf image i)) × (length (pageOf image i) ≤ page) × (page * i + length (pageOf image i) ≤ length image)
@@ -67,10 +68,12 @@ module _ (kind : Kind) (lawful : Lawful kind) where
     whole = orders-length kind;
     begins = λ layout n. refl;
     ends = position-ended;
+    goes = position-running;
     moves = λ state image said bytes next e.
         let m = moved kind state image said bytes next e in
         (m, ap position (m .comes) ∙ after-position state (length image) (m .fitted) (m .ran));
     agrees = λ state image said bytes. moves kind state image said bytes;
+    halts = λ state image bytes place must. halts kind state image read bytes place must;
     stops = λ state image said bytes. halted kind state image said bytes;
     reach = λ state image e r.
         let f = fits-says state (length image) e in

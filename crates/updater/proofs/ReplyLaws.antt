@@ -16,9 +16,9 @@ use Rattle.packets.proofs.Laws.{asked, both-true, false-true}
 use Rattle.chip.specs.Layout.{askLayout}
 use Rattle.chip.specs.Kind.{Kind, LoadsAlone, Lawful}
 use Rattle.chip.specs.declared.kind.Layout.{Layout}
-use Rattle.updater.specs.Run.{first, after, running, fits}
+use Rattle.updater.specs.Run.{first, after, ended, running, fits}
 use Rattle.updater.specs.Orders.{Order, erase, program, look, currentOrder, differs}
-use Rattle.updater.specs.Answers.{askRun, startAnswer, done, read, asksFor, compared, repliedTo, replyAnswer}
+use Rattle.updater.specs.Answers.{askRun, startAnswer, done, read, asksFor, stopOf, compared, repliedTo, replyAnswer}
 use Rattle.updater.specs.OrderList.{Replies, FirstDiffers, Moved, Halted}
 use Rattle.updater.specs.declared.run.State.{State}
 use Rattle.updater.specs.declared.run.StartAnswer.the-variants.{Started, Refused as StartRefused}
@@ -202,7 +202,17 @@ module _ (kind : Kind) (state : State) (image : List ℕ) (said : ℕ) (bytes : 
           let d = asked-for read (length must) said (length bytes) (c .0) in
           to-look place must w f r (d .1) (differs place bytes must) refl (c .1)
 
-  -- And the other way: the reply that the order asks for moves the run on.
+  -- And the other way: bytes that are not those that must stand are a stop,
+  pub halts : (place : ℕ) (must : List ℕ) → fits state (length image) ≡ true → running state ≡ true → currentOrder kind state image ≡ look place must → length bytes ≡ length must → (bytes ≡ must → ⊥) →
+      (address : ℕ) × (replyAnswer kind state image read bytes ≡ Stopped (stopOf (state .phase)) address (ended state (stopOf (state .phase))))
+  unfolding replyAnswer repliedTo compared ask
+  halts place must f r w l other = go (differs place bytes must) refl
+    where
+      go : (d : Option ℕ) → differs place bytes must ≡ d → (address : ℕ) × (replyAnswer kind state image read bytes ≡ Stopped (stopOf (state .phase)) address (ended state (stopOf (state .phase))))
+      go none h = absurd (other (none-same place bytes must l h))
+      go (some address) h = (address, rw (f, r, w, for-asked read (length must) read (length bytes) refl l, h) refl)
+
+  -- and the reply that the order asks for moves the run on.
   replied-moves : (o : Order) → Replies o said bytes → repliedTo o state said bytes ≡ Next (after state)
   unfolding repliedTo Replies compared ask
   replied-moves (erase place count) q = rw (for-asked done 0 said (length bytes) (q .0) (ap length (q .1))) refl

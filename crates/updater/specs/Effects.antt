@@ -2,7 +2,7 @@
 use Prim.Native.Nat.{ℕ}
 use mathlib.Core.List.{List, [], _∷_}
 use lib.ListN.{length}
-use Rattle.chip.specs.Flash.{span, over, afterErase, afterProgram}
+use Rattle.chip.specs.Flash.{span, over, erased, afterProgram}
 use Rattle.updater.specs.Orders.{Order, erase, program, look}
 
 -- the first byte of an order's span
@@ -13,7 +13,7 @@ placeOf (look place bytes) = place
 
 -- A chip obeys when an erase sets its span to FF and a program clears exactly the bits that are 0 in its bytes: what then stands in the span. A look changes nothing.
 unfoldable pub obeyedSpan : Order → List ℕ → List ℕ
-obeyedSpan (erase place count) chip = afterErase count
+obeyedSpan (erase place count) chip = erased count
 obeyedSpan (program place bytes) chip = afterProgram chip place bytes
 obeyedSpan (look place bytes) chip = span chip place (length bytes)
 

@@ -68,13 +68,19 @@ pub record Demand2 (kind : Kind) : Type 0 where
   pub whole : (layout : Layout) (image : List ℕ) → length (orders kind layout image) ≡ total layout (length image)
   pub begins : (layout : Layout) (n : ℕ) → position (first layout n) ≡ 0
   pub ends : (state : State) (lent : ℕ) → fits state lent ≡ true → running state ≡ false → position state ≡ total (state .layout) (state .length)
+  -- Until then a run is at one of the list's orders.
+  pub goes : (state : State) (lent : ℕ) → fits state lent ≡ true → running state ≡ true → position state < total (state .layout) (state .length)
   -- A reply that is neither refused nor a stop was the one asked for, and moves on by one;
   pub moves : (state : State) (image : List ℕ) (said : ℕ) (bytes : List ℕ) (next : State) → replyAnswer kind state image said bytes ≡ Next next →
       Moved kind state image said bytes next × (position next ≡ position state + 1)
   -- the one asked for is neither;
   pub agrees : (state : State) (image : List ℕ) (said : ℕ) (bytes : List ℕ) → fits state (length image) ≡ true → running state ≡ true → Replies (currentOrder kind state image) said bytes →
       replyAnswer kind state image said bytes ≡ Next (after state)
-  -- and a stop has read another byte than must stand there.
+  -- bytes of the length asked for in which one is not as it must be are a stop,
+  pub halts : (state : State) (image : List ℕ) (bytes : List ℕ) (place : ℕ) (must : List ℕ) → fits state (length image) ≡ true → running state ≡ true →
+      currentOrder kind state image ≡ look place must → length bytes ≡ length must → (bytes ≡ must → ⊥) →
+      (address : ℕ) × (replyAnswer kind state image read bytes ≡ Stopped (stopOf (state .phase)) address (ended state (stopOf (state .phase))))
+  -- and a stop is at the first byte that is not.
   pub stops : (state : State) (image : List ℕ) (said : ℕ) (bytes : List ℕ) (number address : ℕ) (next : State) → replyAnswer kind state image said bytes ≡ Stopped number address next →
       Halted kind state image bytes number address next
   -- No order leaves segment 0 and the update area, and a program stays inside its page.
