@@ -45,6 +45,7 @@ use Rattle.host.specs.declared.build.TealsettleBuild.{TealsettleBuild}
 use Rattle.host.specs.declared.run.TealsettleState.{TealsettleState}
 use Rattle.host.specs.declared.run.TealsettleStart.{TealsettleStart}
 use Rattle.host.specs.declared.run.TealsettleTotal.{TealsettleTotal}
+use Rattle.host.specs.declared.run.OrderNumbers.{OrderNumbers}
 use Rattle.host.specs.declared.run.TealsettleOrder.{TealsettleOrder}
 use Rattle.host.specs.declared.run.TealsettleReply.{TealsettleReply}
 use Rattle.host.specs.declared.run.TealsettleFinished.{TealsettleFinished}
@@ -129,6 +130,17 @@ totalResult (TotalRefused number place) = record { number = number; place = plac
 
 abbrev pub totalOf : ℕ → Layout → ℕ → TealsettleTotal
 totalOf kind layout n = totalResult (askKind kind (TotalRefused 1 0) (totalAnswer layout n))
+
+-- an order's numbers, and the bytes beside them
+abbrev pub orderWith : OrderNumbers → List ℕ → TealsettleOrder
+orderWith numbers bytes = record {
+  number = numbers .number;
+  place = numbers .place;
+  operation = numbers .operation;
+  address = numbers .address;
+  length = numbers .length;
+  bytes = bytes;
+}
 
 -- `tealsettle_order`: 1 erase, 2 program or 3 look, its span and its bytes; or a refusal
 unfoldable pub orderedResult : Operation → List ℕ → TealsettleOrder

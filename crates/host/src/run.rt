@@ -1,14 +1,15 @@
 // A run on a printer's chip, order by order. Its state goes in and comes back as numbers.
+ghost use Prim.Native.Nat.{ℕ};
 ghost use mathlib.Core.Path.{_≡_};
+ghost use mathlib.Core.List.{List};
 ghost use Rattle.chip.specs.Answers.{layoutOf};
-ghost use Rattle.host.specs.Results.{stateOf, stateResult, noState, startResult, startOf, totalResult, totalOf, orderedResult, orderResult, orderOf, replyResult, replyOf, finishedResult, finishedOf};
+ghost use Rattle.host.specs.Results.{stateOf, stateResult, noState, startResult, startOf, totalResult, totalOf, orderWith, orderedResult, orderResult, orderOf, replyResult, replyOf, finishedResult, finishedOf};
 use crate::kind::SPI;
 use chip::kind::Spi;
 use updater::run;
 use updater::run::Asked;
 use updater::run::FinishedAnswer;
 use updater::run::Operation;
-use updater::run::OrderAnswer;
 use updater::run::ReplyAnswer;
 use updater::run::StartAnswer;
 use updater::run::State;
@@ -53,6 +54,17 @@ pub struct TealsettleOrder {
     pub length: usize,
     pub bytes: [u8; 256],
 }
+
+// All of an order but its bytes, which are moved as seldom as can be.
+struct OrderNumbers {
+    number: u32,
+    place: usize,
+    operation: u32,
+    address: usize,
+    length: usize,
+}
+
+const PROGRAM: u32 = 2;
 
 // The number and place of a refusal or a stop, and the state handed back.
 #[repr(C)]
@@ -158,52 +170,62 @@ fn total_result(answer: TotalAnswer) -> TealsettleTotal
     }
 }
 
-fn ordered_result(operation: Operation, bytes: [u8; 256]) -> TealsettleOrder
-    ensures { λ r. ⌜ r ≡ orderedResult operation bytes ⌝ }
+// The numbers of an order.
+fn operation_numbers(operation: Operation) -> OrderNumbers
+    ensures { λ r. ⌜ ((bytes : List ℕ) → orderWith r bytes ≡ orderedResult operation bytes) ⌝ }
 {
     match operation {
-        Operation::Erase { place, length } => TealsettleOrder {
+        Operation::Erase { place, length } => OrderNumbers {
             number: 0,
             place: 0,
             operation: 1,
             address: place,
             length,
-            bytes,
         },
-        Operation::Program { place, length } => TealsettleOrder {
+        Operation::Program { place, length } => OrderNumbers {
             number: 0,
             place: 0,
-            operation: 2,
+            operation: PROGRAM,
             address: place,
             length,
-            bytes,
         },
-        Operation::Look { place, length } => TealsettleOrder {
+        Operation::Look { place, length } => OrderNumbers {
             number: 0,
             place: 0,
             operation: 3,
             address: place,
             length,
-            bytes,
         },
     }
 }
 
-fn order_result(answer: OrderAnswer) -> TealsettleOrder
-    ensures { λ r. ⌜ r ≡ orderResult (answer .asked) (answer .bytes) ⌝ }
+// The numbers of an order or a refusal.
+fn order_numbers(asked: Asked) -> OrderNumbers
+    ensures { λ r. ⌜ ((bytes : List ℕ) → orderWith r bytes ≡ orderResult asked bytes) ⌝ }
 {
-    let asked = answer.asked;
-    let bytes = answer.bytes;
     match asked {
-        Asked::Ordered { operation } => ordered_result(operation, bytes),
-        Asked::Refused { number, place } => TealsettleOrder {
+        Asked::Ordered { operation } => operation_numbers(operation),
+        Asked::Refused { number, place } => OrderNumbers {
             number,
             place,
             operation: 0,
             address: 0,
             length: 0,
-            bytes,
         },
+    }
+}
+
+// An order's numbers, and the bytes beside them.
+fn order_result(numbers: OrderNumbers, bytes: [u8; 256]) -> TealsettleOrder
+    ensures { λ r. ⌜ r ≡ orderWith numbers bytes ⌝ }
+{
+    TealsettleOrder {
+        number: numbers.number,
+        place: numbers.place,
+        operation: numbers.operation,
+        address: numbers.address,
+        length: numbers.length,
+        bytes,
     }
 }
 
@@ -321,16 +343,22 @@ pub extern "C" fn tealsettle_order(
     ensures { λ r. ⌜ r ≡ orderOf kind (stateOf length update area n phase index outcome) (now (image .entry)) ⌝ }
 {
     if kind != SPI {
-        return order_result(OrderAnswer {
-            asked: Asked::Refused {
-                number: 7,
-                place: 0,
-            },
-            bytes: [0xFF; 256],
-        });
+        let refused = Asked::Refused {
+            number: 7,
+            place: 0,
+        };
+        return order_result(order_numbers(refused), [0xFF; 256]);
     }
     let state = state_of(length, update, area, n, phase, index, outcome);
-    order_result(state.order(image))
+    let answer = state.order(image);
+    let asked = answer.asked;
+    let numbers = order_numbers(asked);
+    // The bytes beside anything but a program are FF: written where they go, they need no copy.
+    if numbers.operation != PROGRAM {
+        return order_result(numbers, [0xFF; 256]);
+    }
+    let bytes = answer.bytes;
+    order_result(numbers, bytes)
 }
 
 // The state after a reply to the order of a state.

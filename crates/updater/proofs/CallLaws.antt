@@ -1,13 +1,13 @@
 -- The calls on a run: what their code computes, as the specification says it.
 use Prim.Native.Nat.{ℕ, zero, suc, _+_, _-_, _*_, _/_, _%_, _<_, _≤_, min}
-use mathlib.Core.Path.{_≡_, refl, sym, ap, _∙_}
+use mathlib.Core.Path.{_≡_, refl, sym, ap, ap₂, _∙_}
 use mathlib.Core.Bool.{Bool, true, false}
 use mathlib.Core.Option.{Option, some, none}
 use mathlib.Core.List.{List, [], _∷_, _++_}
 use native.Mathlib.Omega.{arith}
 use borrow.Author.Tests.{leb-true, leb-false, eq-eqb, ne-eqb}
 use lib.Dec.{eqb, leb}
-use lib.ListN.{length, getD, set, take, drop, length-take, length-drop, drop-of-length-le}
+use lib.ListN.{length, getD, set, take, drop, length-take, length-drop, take-append-drop, drop-of-length-le}
 use lib.Seq.{take-all, take-length, drop-cons, paste-suc}
 use Rattle.packets.specs.Packet.{ask}
 use Rattle.packets.specs.Answers.{imageLength, imageWithin}
@@ -185,6 +185,10 @@ store-next bytes others i h k =
 
 pub filled-all : (count : ℕ) (bytes : List ℕ) → length bytes ≤ count → take (length bytes) bytes ++ drop (length bytes) (erased count) ≡ filled count bytes
 filled-all count bytes h = rw (take-length bytes, erased-drop count (length bytes) h) refl
+
+-- Bytes whose front is others and whose rest is FF are those others, filled up.
+pub filled-parts : (bytes must : List ℕ) → take (length must) bytes ≡ must → drop (length must) bytes ≡ erased (length bytes - length must) → bytes ≡ filled (length bytes) must
+filled-parts bytes must front rest = sym (take-append-drop (length must) bytes) ∙ ap₂ _++_ front rest
 
 -- A page of an image: how long it is, and its place in the image.
 pub page-length : (image : List ℕ) (i : ℕ) → length (pageOf image i) ≡ min page (length image - page * i)

@@ -7,9 +7,10 @@ ghost use mathlib.Core.Bool.{true};
 ghost use lib.ListN.{length};
 ghost use Rattle.packets.specs.Packet.{ask};
 ghost use Rattle.chip.specs.Layout.{page};
-ghost use Rattle.chip.specs.Kind.{spi};
+ghost use Rattle.chip.specs.Flash.{erased};
+ghost use Rattle.chip.specs.Kind.{spi, spiOn};
 ghost use Rattle.updater.specs.Run.{count, outcomeAllowed, stands, fits, running, after};
-ghost use Rattle.updater.specs.Orders.{currentOrder, operationOf, orderBytes, lookedFor, filled, differs};
+ghost use Rattle.updater.specs.Orders.{currentOrder, operationOf, programmed, orderBytes, lookedFor, filled, differs};
 ghost use Rattle.updater.specs.Answers.{startAnswer, totalAnswer, finishedCase, finishedAnswer, orderAnswer, done, asksFor, stopOf, compared, comparison, repliedTo, replyAnswer};
 ghost use Rattle.updater.specs.declared.run.Operation.the-variants.{Look};
 ghost use Rattle.updater.specs.declared.run.ReplyAnswer.the-variants.{Next, Refused};
@@ -299,22 +300,29 @@ fn filled_page(bytes: &[u8]) -> [u8; 256]
     filling
 }
 
+// The bytes that the current order programs: those of the image, those of ON, or none.
+fn programmed_bytes<'a>(state: State, image: &'a [u8], on: &'a [u8]) -> &'a [u8]
+    requires { ⌜ (fits state (length (now image)) ≡ true) × (running state ≡ true) × (now on ≡ spiOn) ⌝ }
+    ensures { λ r. ⌜ (now r ≡ programmed (currentOrder spi state (now (image .entry)))) × (length (now r) ≤ page) ⌝ }
+{
+    if state.phase == 3 {
+        let from = Spi::PAGE * state.index;
+        let to = at_most(from + Spi::PAGE, image.len());
+        return &image[from..to];
+    }
+    if state.phase == 5 {
+        return on;
+    }
+    &image[0..0]
+}
+
 // The bytes that the current order programs, then FF.
 pub(crate) fn current_bytes(state: State, image: &[u8]) -> [u8; 256]
     requires { ⌜ (fits state (length (now image)) ≡ true) × (running state ≡ true) ⌝ }
     ensures { λ r. ⌜ r ≡ orderBytes (currentOrder spi state (now (image .entry))) ⌝ }
 {
-    let phase = state.phase;
     let on = Spi::ON;
-    match phase {
-        3 => {
-            let from = Spi::PAGE * state.index;
-            let to = at_most(from + Spi::PAGE, image.len());
-            filled_page(&image[from..to])
-        }
-        5 => filled_page(&on),
-        _ => filled_page(&image[0..0]),
-    }
+    filled_page(programmed_bytes(state, image, &on))
 }
 
 // The state after the current order.
@@ -332,8 +340,52 @@ pub(crate) fn after_order(state: State) -> State
     next
 }
 
-// Compares bytes from a place on with those that must stand there: `must`, then FF.
-fn compare(place: usize, bytes: &[u8], must: &[u8]) -> Comparison
+// Whether bytes are the same as others, as many. It never leaves early, so that the compiler compares
+// many at a time.
+fn same(bytes: &[u8], others: &[u8]) -> bool
+    requires { ⌜ length (now bytes) ≡ length (now others) ⌝ }
+    ensures { λ r. ⌜ (r ≡ true → now (bytes .entry) ≡ now (others .entry)) ⌝ }
+{
+    let mut all = true;
+    let mut i = 0;
+    while i < bytes.len() {
+        if bytes[i] != others[i] {
+            all = false;
+        }
+        i += 1;
+    }
+    all
+}
+
+// Whether bytes are all FF. It never leaves early either.
+fn all_erased(bytes: &[u8]) -> bool
+    ensures { λ r. ⌜ (r ≡ true → now (bytes .entry) ≡ erased (length (now (bytes .entry)))) ⌝ }
+{
+    let mut all = true;
+    let mut i = 0;
+    while i < bytes.len() {
+        if bytes[i] != 0xFF {
+            all = false;
+        }
+        i += 1;
+    }
+    all
+}
+
+// Whether bytes are those that must stand there: `must`, then FF.
+fn agree(bytes: &[u8], must: &[u8]) -> bool
+    requires { ⌜ length (now must) ≤ length (now bytes) ⌝ }
+    ensures { λ r. ⌜ (r ≡ true → now (bytes .entry) ≡ filled (length (now (bytes .entry))) (now (must .entry))) ⌝ }
+{
+    let count = must.len();
+    if !same(&bytes[0..count], must) {
+        return false;
+    }
+    all_erased(&bytes[count..])
+}
+
+// The first address, from a place on, at which bytes are not those that must stand there.
+fn first_difference(place: usize, bytes: &[u8], must: &[u8]) -> Comparison
     requires { ⌜ (place ≤ 16777216) × (length (now must) ≤ length (now bytes)) × (length (now bytes) ≤ 256) ⌝ }
     ensures { λ r. ⌜ r ≡ comparison (differs place (now (bytes .entry)) (filled (length (now (bytes .entry))) (now (must .entry)))) ⌝ }
 {
@@ -349,6 +401,18 @@ fn compare(place: usize, bytes: &[u8], must: &[u8]) -> Comparison
         i += 1;
     }
     Comparison::Same
+}
+
+// Compares bytes from a place on with those that must stand there: `must`, then FF. Nearly every look
+// agrees, so the slower search for an address waits until one does not.
+fn compare(place: usize, bytes: &[u8], must: &[u8]) -> Comparison
+    requires { ⌜ (place ≤ 16777216) × (length (now must) ≤ length (now bytes)) × (length (now bytes) ≤ 256) ⌝ }
+    ensures { λ r. ⌜ r ≡ comparison (differs place (now (bytes .entry)) (filled (length (now (bytes .entry))) (now (must .entry)))) ⌝ }
+{
+    if agree(bytes, must) {
+        return Comparison::Same;
+    }
+    first_difference(place, bytes, must)
 }
 
 // Compares what a look of the current phase read with what must stand there.

@@ -1,9 +1,9 @@
--- `ordered_result` meets its contract.
+-- `operation_numbers` meets its contract.
 use Rattle.host.specs.Results.{orderedResult}
 use mathlib.Core.Path.{refl}
 use borrow.Author.Needs.{needs}
-use Rattle.host.proofs.run.ordered_result.Statement.{statement}
-use Rattle.host.proofs.run.ordered_result.Tie as tie
+use Rattle.host.proofs.run.operation_numbers.Statement.{statement}
+use Rattle.host.proofs.run.operation_numbers.Tie as tie
 
 enum-known-operation : tie.Need-enum-known-operation
 enum-known-operation c = search needs
@@ -16,15 +16,15 @@ enum-known-operation-3 c = search needs
 
 returns : tie.Need-returns
 unfolding orderedResult
-returns c = rw (c .before .operation .given .1) refl
+returns c bytes = rw (c .before .operation .given .1) refl
 
 returns-2 : tie.Need-returns-2
 unfolding orderedResult
-returns-2 c = rw (c .before .operation2 .given .1) refl
+returns-2 c bytes = rw (c .before .operation2 .given .1) refl
 
 returns-3 : tie.Need-returns-3
 unfolding orderedResult
-returns-3 c = rw (c .before .operation3 .given .1) refl
+returns-3 c bytes = rw (c .before .operation3 .given .1) refl
 
-pub ordered-result-spec : {M : Type 1} → statement M
-ordered-result-spec = tie.close (tie.spec enum-known-operation enum-known-operation-2 enum-known-operation-3 returns returns-2 returns-3)
+pub operation-numbers-spec : {M : Type 1} → statement M
+operation-numbers-spec = tie.close (tie.spec enum-known-operation enum-known-operation-2 enum-known-operation-3 returns returns-2 returns-3)
