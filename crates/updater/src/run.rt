@@ -1,7 +1,7 @@
 // A run: its state, its orders, and the replies that move it on. Run, order, reply and stop are document
 // 01's terms. An order is an operation on the chip that the run asks for (an erase, a program or a
 // look); the host carries it out and replies; a stop is a look that read something else.
-ghost use Prim.Native.Nat.{_≤_, min};
+ghost use Prim.Native.Nat.{_≤_};
 ghost use mathlib.Core.Path.{_≡_};
 ghost use mathlib.Core.Bool.{true};
 ghost use lib.ListN.{length};
@@ -14,6 +14,7 @@ ghost use Rattle.updater.specs.Orders.{currentOrder, operationOf, progra
 ghost use Rattle.updater.specs.Answers.{startAnswer, totalAnswer, finishedCase, finishedAnswer, orderAnswer, done, asksFor, stopOf, compared, comparison, repliedTo, replyAnswer};
 ghost use Rattle.updater.specs.declared.run.Operation.the-variants.{Look};
 ghost use Rattle.updater.specs.declared.run.ReplyAnswer.the-variants.{Next, Refused};
+use base::smaller;
 use chip::kind::Layout;
 use chip::kind::LayoutAnswer;
 use chip::kind::Spi;
@@ -259,7 +260,7 @@ pub(crate) fn current_operation(state: State, image: &[u8]) -> Operation
         },
         3 => Operation::Program {
             place: page,
-            length: at_most(image.len() - Spi::PAGE * state.index, Spi::PAGE),
+            length: smaller(image.len() - Spi::PAGE * state.index, Spi::PAGE),
         },
         4 => Operation::Look {
             place: page,
@@ -274,16 +275,6 @@ pub(crate) fn current_operation(state: State, image: &[u8]) -> Operation
             length: 4,
         },
     }
-}
-
-// The smaller of two numbers.
-fn at_most(number: usize, limit: usize) -> usize
-    ensures { λ r. ⌜ r ≡ min number limit ⌝ }
-{
-    if number < limit {
-        return number;
-    }
-    limit
 }
 
 // Bytes, then FF to the end of a page.
@@ -307,7 +298,7 @@ fn programmed_bytes<'a>(state: State, image: &'a [u8], on: &'a [u8]) -> &'a [u8]
 {
     if state.phase == 3 {
         let from = Spi::PAGE * state.index;
-        let to = at_most(from + Spi::PAGE, image.len());
+        let to = smaller(from + Spi::PAGE, image.len());
         return &image[from..to];
     }
     if state.phase == 5 {
@@ -425,8 +416,8 @@ fn compare_look(state: State, image: &[u8], place: usize, bytes: &[u8]) -> Compa
     match phase {
         1 => compare(place, bytes, &image[0..0]),
         4 => {
-            let from = at_most(Spi::PAGE * state.index, image.len());
-            let to = at_most(from + Spi::PAGE, image.len());
+            let from = smaller(Spi::PAGE * state.index, image.len());
+            let to = smaller(from + Spi::PAGE, image.len());
             compare(place, bytes, &image[from..to])
         }
         _ => compare(place, bytes, &on),

@@ -38,20 +38,20 @@ compare-requires c κs =
     let s = places-small state (length image) (e .0) (e .1) in
     (omega arith, omega arith, omega arith)
 
-mul-at-most : tie.Need-mul-at-most
-mul-at-most c =
+mul-smaller : tie.Need-mul-smaller
+mul-smaller c =
     let state = c .before .before .before .before .args .state in
     let s = places-small state _ (c .before .before .before .before .pre .0) (c .before .before .before .before .pre .1) in
     omega arith
 
-at-most-requires : tie.Need-at-most-requires
-at-most-requires c κs = search needs
+smaller-requires : tie.Need-smaller-requires
+smaller-requires c κs = search needs
 
-add-at-most : tie.Need-add-at-most
-add-at-most c = search needs
+add-smaller : tie.Need-add-smaller
+add-smaller c = search needs
 
-at-most-requires-2 : tie.Need-at-most-requires-2
-at-most-requires-2 c κs = search needs
+smaller-requires-2 : tie.Need-smaller-requires-2
+smaller-requires-2 c κs = search needs
 
 sub-compare-2 : tie.Need-sub-compare-2
 sub-compare-2 c = search needs
@@ -72,7 +72,7 @@ compare-requires-2 c κs =
     let l = look-parts _ _ _ _ (sym (ap operationOf o) ∙ e .2) in
     let m = page-length image (state .index) in
     let n = filled-length page (pageOf image (state .index)) (omega arith) in
-    let p = ap (λ (l : List ℕ). length l) (page-part image (state .index) _ _ (c .before .before .at-most .ensures) (c .before .at-most2 .ensures)) in
+    let p = ap (λ (l : List ℕ). length l) (page-part image (state .index) _ _ (c .before .before .smaller .ensures) (c .before .smaller2 .ensures)) in
     let s = places-small state (length image) (e .0) (e .1) in
     (omega arith, omega arith, omega arith)
 
@@ -117,7 +117,7 @@ returns-2 c =
     let t = page-length image (state .index) in
     let n = filled-length page (pageOf image (state .index)) (omega arith) in
     let m : length bytes ≡ page = omega arith in
-    let p = page-part image (state .index) _ _ (c .before .before .before .at-most .ensures) (c .before .before .at-most2 .ensures) in
+    let p = page-part image (state .index) _ _ (c .before .before .before .smaller .ensures) (c .before .before .smaller2 .ensures) in
     c .compare2 .ensures
     ∙ ap (λ (must : List ℕ). comparison (differs place bytes must)) (ap (filled (length bytes)) p ∙ ap (λ (n : ℕ). filled n (pageOf image (state .index))) m ∙ sym (ap lookedFor o))
 
@@ -144,10 +144,10 @@ compare-look-spec =
     part-compare-start
     part-compare-end
     compare-requires
-    mul-at-most
-    at-most-requires
-    add-at-most
-    at-most-requires-2
+    mul-smaller
+    smaller-requires
+    add-smaller
+    smaller-requires-2
     sub-compare-2
     part-compare-start-2
     part-compare-end-2

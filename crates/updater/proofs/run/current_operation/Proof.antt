@@ -44,22 +44,22 @@ add-t9 c =
     let s = places-small state _ (c .before .before .before .before .before .before .pre .0) (c .before .before .before .before .before .before .pre .1) in
     omega arith
 
-mul-at-most : tie.Need-mul-at-most
-mul-at-most c =
+mul-smaller : tie.Need-mul-smaller
+mul-smaller c =
     let state = c .before .before .before .before .before .args .state in
     let s = places-small state _ (c .before .before .before .before .before .pre .0) (c .before .before .before .before .before .pre .1) in
     omega arith
 
-sub-at-most : tie.Need-sub-at-most
-sub-at-most c =
+sub-smaller : tie.Need-sub-smaller
+sub-smaller c =
     let state = c .before .before .before .before .before .args .state in
     let image = c .before .before .before .before .before .args .image .now in
     let e = c .before .before .before .before .before .pre in
     let h = page-left state image (e .0) (e .1) (c .before .match .keys4) in
     omega arith
 
-at-most-requires : tie.Need-at-most-requires
-at-most-requires c κs = search needs
+smaller-requires : tie.Need-smaller-requires
+smaller-requires c κs = search needs
 
 returns : tie.Need-returns
 unfolding orderOf byPhase operationOf
@@ -92,7 +92,7 @@ returns-4 c =
     let image = c .before .before .before .before .before .before .args .image .now in
     let e = c .before .before .before .before .before .before .pre in
     let l = page-length image (state .index) in
-    let n : c .at-most .result ≡ length (pageOf image (state .index)) = c .at-most .ensures ∙ omega arith in
+    let n : c .smaller .result ≡ length (pageOf image (state .index)) = c .smaller .ensures ∙ omega arith in
     ap (Program (state .layout .update + page * state .index)) n
     ∙ sym (ap operationOf (at-phase state image 3 (e .0) (e .1) (c .before .before .match .keys4)))
 
@@ -134,9 +134,9 @@ current-operation-spec =
     mul-t7
     mul-t8
     add-t9
-    mul-at-most
-    sub-at-most
-    at-most-requires
+    mul-smaller
+    sub-smaller
+    smaller-requires
     returns
     returns-2
     returns-3

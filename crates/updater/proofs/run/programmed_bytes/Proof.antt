@@ -17,27 +17,27 @@ mul-from c =
     let s = places-small (c .before .before .before .before .before .args .state) _ (e .0) (e .1) in
     omega arith
 
-add-at-most : tie.Need-add-at-most
-add-at-most c =
+add-smaller : tie.Need-add-smaller
+add-smaller c =
     let e = c .before .before .before .before .before .pre in
     let s = places-small (c .before .before .before .before .before .args .state) _ (e .0) (e .1) in
     omega arith
 
-at-most-requires : tie.Need-at-most-requires
-at-most-requires c κs = search needs
+smaller-requires : tie.Need-smaller-requires
+smaller-requires c κs = search needs
 
 sub-result : tie.Need-sub-result
 sub-result c =
     let e = c .before .before .before .before .before .before .pre in
     let h = page-left (c .before .before .before .before .before .before .args .state) (c .before .before .before .before .before .before .args .image .now) (e .0) (e .1) (c .before .before .if1 .taken) in
-    let t = c .at-most .ensures in
+    let t = c .smaller .ensures in
     omega arith
 
 part-result-start : tie.Need-part-result-start
 part-result-start c =
     let e = c .before .before .before .before .before .before .pre in
     let h = page-left (c .before .before .before .before .before .before .args .state) (c .before .before .before .before .before .before .args .image .now) (e .0) (e .1) (c .before .before .if1 .taken) in
-    let t = c .at-most .ensures in
+    let t = c .smaller .ensures in
     omega arith
 
 part-result-end : tie.Need-part-result-end
@@ -52,7 +52,7 @@ returns c =
     let key = c .before .before .before .if1 .taken in
     let h = page-left state image (e .0) (e .1) key in
     let from : page * state .index ≡ min (page * state .index) (length image) = omega arith in
-    let part = page-part image (state .index) (page * state .index) _ from (c .before .at-most .ensures) in
+    let part = page-part image (state .index) (page * state .index) _ from (c .before .smaller .ensures) in
     let l = ap length part in
     let m = page-length image (state .index) in
     (part ∙ sym (ap programmed (at-phase state image 3 (e .0) (e .1) key)), omega arith)
@@ -83,8 +83,8 @@ programmed-bytes-spec =
     tie.close
     (tie.spec
     mul-from
-    add-at-most
-    at-most-requires
+    add-smaller
+    smaller-requires
     sub-result
     part-result-start
     part-result-end
