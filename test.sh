@@ -1,7 +1,7 @@
 #!/usr/bin/env bash
 # The tests: proves every listed crate from nothing, tries every must-fail edit, runs every program and
 # compares what it writes; then `bootreport` on each file of tests/report/, the C host's tests on the proved
-# library, the example, killed in every order, README's sessions, and docs/PROOFS.md against the source. The last line is
+# library, the example, killed in every order, README's transcripts, and docs/PROOFS.md against the source. The last line is
 # 'N passed, 0 failed' only if all of that went well.
 set -euo pipefail
 cd "$(dirname "$0")"
@@ -33,7 +33,7 @@ for source in tests/host/*.c; do
     try "target/tests/host/$name"
 done
 try tests/example/run
-try tests/sessions
+try tests/transcripts
 try python3 docs/proofs.py --check
 echo "$passed passed, $failed failed"
 [ "$failed" -eq 0 ]
