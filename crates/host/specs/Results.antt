@@ -131,7 +131,7 @@ totalResult (TotalRefused number place) = record { number = number; place = plac
 abbrev pub totalOf : ℕ → Layout → ℕ → TealsettleTotal
 totalOf kind layout n = totalResult (askKind kind (TotalRefused 1 0) (totalAnswer layout n))
 
--- an order's numbers, and the bytes beside them
+-- an order's numbers, and the bytes beside them; only contracts of private functions cite it
 abbrev pub orderWith : OrderNumbers → List ℕ → TealsettleOrder
 orderWith numbers bytes = record {
   number = numbers .number;
