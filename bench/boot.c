@@ -102,6 +102,18 @@ static size_t make_threes(uint8_t *chip)
     return make_equal(chip, 3);
 }
 
+/* A type 1 header of no words, and the type 2 packet of one word that it opens its register to. */
+static size_t make_type2s(uint8_t *chip)
+{
+    Stream s = begin(chip, MIB16);
+    while (words_left(&s) >= 3) {
+        put_packet(&s, some_register(), 0);
+        put_word(&s, 0x50000000u | 1);
+        put_word(&s, (uint32_t)next_random());
+    }
+    return end(&s);
+}
+
 static size_t make_nops(uint8_t *chip)
 {
     Stream s = begin(chip, MIB16);
@@ -212,6 +224,7 @@ static const Job JOBS[] = {
     {"boot: packets of 1 word", make_ones, ours_boot, plain_boot_job, "plain C", AS_PLAIN},
     {"boot: packets of 2 words", make_twos, ours_boot, plain_boot_job, "plain C", AS_PLAIN},
     {"boot: packets of 3 words", make_threes, ours_boot, plain_boot_job, "plain C", AS_PLAIN},
+    {"boot: type 2 packets of 1 word", make_type2s, ours_boot, plain_boot_job, "plain C", AS_PLAIN},
     {"boot: no-operations", make_nops, ours_boot, plain_boot_job, "plain C", AS_PLAIN},
     {"boot: packets of 1 word of CMD", make_commands, ours_boot, plain_boot_job, "plain C", AS_PLAIN},
     {"boot: packets of 0 to 8 words, NOPs", make_mixed, ours_boot, plain_boot_job, "plain C", AS_PLAIN},

@@ -2,12 +2,13 @@
 use Prim.Native.Nat.{ℕ, zero, suc, _+_, _-_, _*_, _≤_}
 use mathlib.Core.Path.{_≡_}
 use mathlib.Core.Bool.{Bool, true, false}
+use mathlib.Core.Option.{some}
 use mathlib.Core.List.{List}
 use lib.ListN.{length, getD, drop}
 use lib.Dec.{eqb}
 use Rattle.packets.specs.Framing.{words, wordAt}
-use Rattle.packets.specs.Packet.{WBSTAR}
-use Rattle.packets.specs.Reading.{Before, opened, other, Trace, wrote, ended, jumps, faulty, short, trace, modeOf, lastWbstar, target}
+use Rattle.packets.specs.Packet.{WBSTAR, headOf}
+use Rattle.packets.specs.Reading.{Before, opened, other, Trace, wrote, ended, jumps, faulty, short, trace, modeOf, afterHeader, lastWbstar, target}
 use Rattle.packets.specs.declared.header.Effect.{Effect}
 use Rattle.packets.specs.declared.header.Effect.the-variants.{GoesOn, Desync, Iprog as Jumps}
 use Rattle.packets.specs.declared.walk.Finish.the-variants.{Ended, Iprog, Fault, Short}
@@ -82,6 +83,10 @@ NOP = 0x20000000
 -- a walk that goes on, before a header
 abbrev pub AtHeader : Walk → Type 0
 AtHeader w = (w .status ≡ Going) × (w .left ≡ 0) × (w .writes ≤ w .at)
+
+-- the header at a walk's place begins a packet of `count` data words, one at least, for `register`
+abbrev pub Begins : List ℕ → Walk → ℕ → ℕ → Type 0
+Begins s w register count = afterHeader (headOf (wordAt s (w .at))) (beforeOf (w .opened) (w .register)) ≡ some (modeOf count register other)
 
 -- what passing whole packets keeps: what the walk comes to, that it stands before a header, and that it does not go back or out of the bytes
 pub record Past (s : List ℕ) (w r : Walk) : Type 0 where

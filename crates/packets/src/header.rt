@@ -1,5 +1,8 @@
 // One word as a packet header, and what one data word does to the reading.
 ghost use mathlib.Core.Path.{_≡_};
+ghost use mathlib.Core.Bool.{true};
+ghost use Prim.Native.Nat.{_/_, _%_};
+ghost use Rattle.packets.specs.declared.header.Header.the-variants.{Type1, Type2};
 ghost use Rattle.packets.specs.Packet.{registerOk, type1Of, type2Of, headOf, effectOf};
 
 pub(crate) const CMD: u32 = 4;
@@ -87,6 +90,27 @@ pub(crate) fn header_of(word: u32) -> Header
         return type2(word);
     }
     Header::Fault
+}
+
+// Is this the header of a type 1 write? Here and below the word is compared whole, not field by field, so
+// that it is loaded at once where many headers are looked at.
+pub(crate) fn is_type1_write(word: u32) -> bool
+    ensures { λ r. ⌜ (r ≡ true → headOf word ≡ Type1 (word / 8192 % 32) (word % 2048)) ⌝ }
+{
+    if word / 0x0004_0000 != 0x0C00 {
+        return false;
+    }
+    if word % 0x2000 >= 0x0800 {
+        return false;
+    }
+    register_ok(word / 0x2000 % 32)
+}
+
+// Is this the header of a type 2 write?
+pub(crate) fn is_type2_write(word: u32) -> bool
+    ensures { λ r. ⌜ (r ≡ true → headOf word ≡ Type2 (word % 134217728)) ⌝ }
+{
+    word / 0x0800_0000 == 0x000A
 }
 
 pub(crate) fn effect_of(register: u32, word: u32) -> Effect

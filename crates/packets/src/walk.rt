@@ -10,7 +10,7 @@ ghost use Rattle.packets.specs.declared.header.Effect.the-variants.{Goes
 ghost use Rattle.packets.specs.declared.header.Header.the-variants.{Type1};
 ghost use Rattle.packets.specs.declared.walk.Status.the-variants.{Going};
 ghost use Rattle.packets.specs.Reading.{finishFrom};
-ghost use Rattle.packets.specs.Walk.{walkOf, startOf, onward, stoppedAt, endingOf, reachedAt, passed, Held, Stepped, AtHeader, Past, Inside};
+ghost use Rattle.packets.specs.Walk.{walkOf, startOf, onward, stoppedAt, endingOf, reachedAt, passed, Held, Stepped, AtHeader, Begins, Past, Inside};
 use crate::framing::word_at;
 use crate::framing::words_from;
 use crate::header::CMD;
@@ -20,6 +20,8 @@ use crate::header::NOP;
 use crate::header::WBSTAR;
 use crate::header::effect_of;
 use crate::header::header_of;
+use crate::header::is_type1_write;
+use crate::header::is_type2_write;
 use crate::writes::Write;
 use base::smaller;
 
@@ -52,19 +54,19 @@ pub(crate) enum Status {
     Short,
 }
 
-// Where a walk is: the next word's place; the packet's register and the data words left in it;
-// whether the word just before opened that register to a type 2 header; the writes to pass before
-// the wanted one; the writes passed; the last WBSTAR word. It is a plain record, not an enum of
-// records, so that it can stay in registers from step to step.
+// Where a walk is: the next word's place; the packet's register, and whether the word just before
+// opened it to a type 2 header; whether the walk goes on; the data words left in the packet; the writes
+// to pass before the wanted one; the writes passed; the last WBSTAR word. It is a plain record with no
+// wide gaps between its fields, so that it can stay in registers from step to step.
 pub(crate) struct Walk {
     pub(crate) at: usize,
     pub(crate) register: u32,
-    pub(crate) left: usize,
     pub(crate) opened: bool,
+    pub(crate) status: Status,
+    pub(crate) left: usize,
     pub(crate) skip: usize,
     pub(crate) writes: usize,
-    pub(crate) wbstar: u32,
-    pub(crate) status: Status,
+    pub(crate) wbstar: usize,
 }
 
 // How many of the first `most` data words leave the reading going on, up to the first that does not.
@@ -182,7 +184,7 @@ fn after_packet(s: &[u8], w: Walk) -> Walk
 {
     let at = w.at + 4 * w.left;
     let wbstar = if w.register == WBSTAR {
-        word_at(s, at - 4)
+        word_at(s, at - 4) as usize
     } else {
         w.wbstar
     };
@@ -219,7 +221,7 @@ fn data_step(s: &[u8], w: Walk) -> Walk
 }
 
 // Whether all of a packet's data words can be passed at once: there are some, no more than `room`, and
-// none of them can end the reading. Of CMD's only a lone word is looked at here.
+// none of them ends the reading.
 fn may_pass(s: &[u8], at: usize, register: u32, count: usize, room: usize) -> bool
     requires { ⌜ (count ≤ room → count ≤ length (words (drop at (now s)))) ⌝ }
     ensures { λ r. ⌜ (r ≡ true → (1 ≤ count) × (count ≤ room) × ((i : ℕ) → i < count → effectOf register (getD (words (drop at (now (s .entry)))) i 0) ≡ GoesOn)) ⌝ }
@@ -230,29 +232,35 @@ fn may_pass(s: &[u8], at: usize, register: u32, count: usize, room: usize) -> bo
     if room < count {
         return false;
     }
-    if register != CMD {
-        return true;
-    }
-    if count != 1 {
-        return false;
-    }
-    let effect = effect_of(register, word_at(s, at));
-    let Effect::GoesOn = effect else {
-        return false;
-    };
-    true
+    quiet(s, at, register, count) == count
 }
 
-// The walk after the packet of a type 1 header at its place; or as it was, where the packet cannot be
-// passed at once.
+// The walk after the packet of a header at its place; or as it was, where the packet cannot be passed
+// at once.
 fn past_data(s: &[u8], w: Walk, register: u32, count: usize, room: usize) -> Walk
-    requires { ⌜ AtHeader w × (w .at + 4 ≤ length (now s)) × (headOf (wordAt (now s) (w .at)) ≡ Type1 register count) × (room ≤ w .skip) × (count ≤ room → count ≤ length (words (drop (w .at + 4) (now s)))) ⌝ }
+    requires { ⌜ AtHeader w × (w .at + 4 ≤ length (now s)) × (1 ≤ count → Begins (now s) w register count) × (room ≤ w .skip) × (count ≤ room → count ≤ length (words (drop (w .at + 4) (now s)))) ⌝ }
     ensures { λ r. ⌜ Past (now (s .entry)) w r ⌝ }
 {
     if !may_pass(s, w.at + 4, register, count, room) {
         return w;
     }
     after_packet(s, after_header(w, register, count, true))
+}
+
+// The walk after a type 1 header with no data words, and after the type 2 packet that it opens `register`
+// to, where one follows that can be passed at once.
+fn past_opening(s: &[u8], w: Walk, register: u32) -> Walk
+    requires { ⌜ AtHeader w × (w .at + 8 ≤ length (now s)) × (headOf (wordAt (now s) (w .at)) ≡ Type1 register 0) ⌝ }
+    ensures { λ r. ⌜ Past (now (s .entry)) w r ⌝ }
+{
+    let opened = after_header(w, register, 0, true);
+    let word = word_at(s, opened.at);
+    if !is_type2_write(word) {
+        return opened;
+    }
+    let count = (word % 0x0800_0000) as usize;
+    let room = smaller(opened.skip, words_from(s, opened.at + 4));
+    past_data(s, opened, register, count, room)
 }
 
 // The walk after the packet whose header is `word`, the word at its place; or as it was. Packets of one
@@ -264,10 +272,14 @@ fn past_packet(s: &[u8], w: Walk, word: u32) -> Walk
     if word == NOP {
         return after_header(w, 0, 0, false);
     }
-    let header = header_of(word);
-    let Header::Type1 { register, count } = header else {
+    if !is_type1_write(word) {
         return w;
-    };
+    }
+    let register = word / 0x2000 % 32;
+    let count = word % 0x0800;
+    if count == 0 {
+        return past_opening(s, w, register);
+    }
     if count == 1 {
         return past_data(s, w, register, 1, w.skip);
     }
@@ -324,7 +336,7 @@ fn come_to(s: &[u8], w: Walk) -> Walked
         }),
         Status::Iprog => Walked::Finished(Finish::Iprog {
             place: at,
-            target: (w.wbstar % 0x2000_0000) as usize,
+            target: w.wbstar % 0x2000_0000,
         }),
         Status::Fault => Walked::Finished(Finish::Fault { place: at }),
         Status::Short => Walked::Finished(Finish::Short),

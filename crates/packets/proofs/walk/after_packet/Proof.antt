@@ -37,15 +37,18 @@ sub-word-at c = search needs
 word-at-requires : tie.Need-word-at-requires
 word-at-requires c κs = search needs
 
+cast-wbstar : tie.Need-cast-wbstar
+cast-wbstar c = search needs
+
 sub-t5 : tie.Need-sub-t5
 sub-t5 c = search needs
 
-add-t9 : tie.Need-add-t9
-add-t9 c = search needs
+add-t10 : tie.Need-add-t10
+add-t10 c = search needs
 
 returns : tie.Need-returns
 returns c = rw (wbstar-is (c .before .before)) refl
 
 pub after-packet-spec : {M : Type 1} → statement M
 after-packet-spec =
-    tie.close (tie.spec mul-at add-at sub-word-at word-at-requires sub-t5 add-t9 returns)
+    tie.close (tie.spec mul-at add-at sub-word-at word-at-requires cast-wbstar sub-t5 add-t10 returns)

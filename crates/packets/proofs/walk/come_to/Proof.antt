@@ -18,9 +18,6 @@ enum-told-2 c = search needs
 enum-told-3 : tie.Need-enum-told-3
 enum-told-3 c = search needs
 
-cast-t10 : tie.Need-cast-t10
-cast-t10 c = search needs
-
 enum-told-4 : tie.Need-enum-told-4
 enum-told-4 c = search needs
 
@@ -61,7 +58,6 @@ come-to-spec =
     word-at-requires
     enum-told-2
     enum-told-3
-    cast-t10
     enum-told-4
     enum-told-5
     enum-told-6

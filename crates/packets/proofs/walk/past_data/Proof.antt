@@ -37,7 +37,7 @@ returns-2 c =
     let s = c .before .before .before .before .before .before .args .s .now in
     let w = c .before .before .before .before .before .before .args .w in
     subst (Past s w) (sym (c .after-packet .ensures ∙ ap (λ (v : Walk). passed s v) (c .before .after-header .ensures)))
-    (past-whole s w (c .before .before .before .before .before .before .args .register) (c .before .before .before .before .before .before .args .count) (p .0) (p .1) (p .2) (m .0) (omega (arith, m, p)) (p .4 (m .1)) (m .2))
+    (past-whole s w (c .before .before .before .before .before .before .args .register) (c .before .before .before .before .before .before .args .count) (p .0) (p .1) (p .2 (m .0)) (m .0) (omega (arith, m, p)) (p .4 (m .1)) (m .2))
 
 pub past-data-spec : {M : Type 1} → statement M
 past-data-spec =
