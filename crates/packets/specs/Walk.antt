@@ -84,7 +84,7 @@ NOP = 0x20000000
 abbrev pub AtHeader : Walk → Type 0
 AtHeader w = (w .status ≡ Going) × (w .left ≡ 0) × (w .writes ≤ w .at)
 
--- the header at a walk's place begins a packet of `count` data words, one at least, for `register`
+-- the header at a walk's place begins a packet of `count` data words for `register`; only asked where there is one at least
 abbrev pub Begins : List ℕ → Walk → ℕ → ℕ → Type 0
 Begins s w register count = afterHeader (headOf (wordAt s (w .at))) (beforeOf (w .opened) (w .register)) ≡ some (modeOf count register other)
 

@@ -92,8 +92,8 @@ pub(crate) fn header_of(word: u32) -> Header
     Header::Fault
 }
 
-// Is this the header of a type 1 write? Here and below the word is compared whole, not field by field, so
-// that it is loaded at once where many headers are looked at.
+// Is this the header of a type 1 write? A yes is sure; after a no, `header_of` decides. Here and below the
+// word is compared whole, not field by field, so that it is loaded at once where many headers are looked at.
 pub(crate) fn is_type1_write(word: u32) -> bool
     ensures { λ r. ⌜ (r ≡ true → headOf word ≡ Type1 (word / 8192 % 32) (word % 2048)) ⌝ }
 {

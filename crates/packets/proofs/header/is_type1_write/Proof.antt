@@ -1,6 +1,6 @@
 -- `header::is_type1_write` meets its contract: its tests decide the definition.
 use Prim.Native.Nat.{_/_, _%_}
-use mathlib.Core.Path.{_≡_, refl, sym, _∙_}
+use mathlib.Core.Path.{_≡_, sym, _∙_}
 use native.Mathlib.Omega.{arith}
 use borrow.Author.Tests.{eq-eqb}
 use Rattle.base.proofs.Laws.{false-true}

@@ -1,6 +1,6 @@
 -- `header::is_type2_write` meets its contract: its test decides the definition.
 use Prim.Native.Nat.{_/_, _%_}
-use mathlib.Core.Path.{_≡_, refl}
+use mathlib.Core.Path.{_≡_}
 use native.Mathlib.Omega.{arith}
 use borrow.Author.Tests.{eqb-true, eq-eqb, ne-eqb}
 use Rattle.packets.specs.Packet.{ask, headOf, type2Of}

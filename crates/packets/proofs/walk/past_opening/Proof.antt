@@ -1,7 +1,6 @@
 -- `walk::past_opening` meets its contract: the type 1 header is passed, and then the packet that follows.
 use Prim.Native.Nat.{_+_}
 use mathlib.Core.Path.{_≡_, sym, ap, _∙_}
-use mathlib.Core.Bool.{true}
 use native.Mathlib.Omega.{arith}
 use borrow.Author.Tests.{not-false}
 use Rattle.packets.specs.Packet.{headOf}
