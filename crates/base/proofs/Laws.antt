@@ -1,8 +1,11 @@
 -- Laws of yes and no, and of a question.
-use Prim.Native.Nat.{ℕ}
+use Prim.Native.Nat.{ℕ, _<_, _≤_}
 use mathlib.Core.Path.{_≡_, refl}
 use mathlib.Core.Bool.{Bool, true, false, _&&_}
+use mathlib.Core.Logic.{_⊎_, inl, inr}
 use native.Mathlib.Omega.{arith}
+use borrow.Author.Tests.{ltb-true, ltb-false}
+use lib.Dec.{ltb}
 use Rattle.base.specs.Question.{ask}
 
 pub false-true : false ≡ true → ⊥
@@ -26,3 +29,11 @@ pub asked-yes : {A : Type 0} (b : Bool) (refused rest : A) → b ≡ true → as
 unfolding ask
 asked-yes true refused rest e = refl
 asked-yes false refused rest e = absurd (false-true e)
+
+-- Below a number, or not.
+pub below-or-not : (a b : ℕ) → (a < b) ⊎ (b ≤ a)
+below-or-not a b = go (ltb a b) refl
+  where
+    go : (t : Bool) → ltb a b ≡ t → (a < b) ⊎ (b ≤ a)
+    go true e = inl (ltb-true a b e)
+    go false e = inr (ltb-false a b e)

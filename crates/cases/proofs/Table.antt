@@ -4,10 +4,13 @@ use mathlib.Core.List.{_++_}
 use native.Mathlib.Omega.{arith}
 use borrow.Author.Tests.{le-leb}
 use lib.ListN.{length, replicate}
-use Rattle.packets.specs.Framing.{starts, find, words}
-use Rattle.packets.specs.Packet.{ask, registerOk, type1Of, type2Of, headOf, effectOf}
-use Rattle.packets.specs.Reading.{modeOf, afterHeader, trace, finish, readAt, searchFrom, jump}
-use Rattle.packets.specs.Answers.{lengthAllowed, imageLength, aloneCase, imageAnswer}
+use Rattle.framing.specs.Search.{starts, find}
+use Rattle.framing.specs.Words.{words}
+use Rattle.base.specs.Question.{ask}
+use Rattle.packets.specs.Header.{registerOk, type1Of, type2Of, headOf, effectOf}
+use Rattle.packets.specs.Trace.{modeOf, afterHeader, trace, finish}
+use Rattle.bootreader.specs.Reading.{readAt, searchFrom, jump}
+use Rattle.bootreader.specs.Answers.{lengthAllowed, imageLength, aloneCase, imageAnswer}
 use Rattle.chip.specs.Layout.{updateAllowed, areaAllowed, askLayout}
 use Rattle.chip.specs.Answers.{layoutAnswer, switchCase, switchAnswer}
 use Rattle.updater.specs.Run.{byPhase, count, before as runBefore}

@@ -3,9 +3,9 @@ use Prim.Native.Nat.{ℕ, _≤_}
 use mathlib.Core.Path.{_≡_}
 use mathlib.Core.List.{List, [], _∷_, _++_}
 use lib.ListN.{length, take, replicate}
-use Rattle.packets.specs.Answers.{imageAnswer}
-use Rattle.packets.specs.declared.image.ImageAnswer.{ImageAnswer}
-use Rattle.packets.specs.declared.image.ImageAnswer.the-variants.{Accepted, Refused}
+use Rattle.bootreader.specs.Answers.{imageAnswer}
+use Rattle.bootreader.specs.declared.image.ImageAnswer.{ImageAnswer}
+use Rattle.bootreader.specs.declared.image.ImageAnswer.the-variants.{Accepted, Refused}
 use Rattle.chip.specs.Flash.{erased}
 use Rattle.chip.specs.Answers.{layoutOf, layoutAnswer, switchAnswer}
 use Rattle.chip.specs.declared.kind.LayoutAnswer.{LayoutAnswer}

@@ -8,13 +8,15 @@ use borrow.Author.Tests.{leb-true, le-leb, lt-leb, ltb-true, ltb-false}
 use lib.Dec.{leb, ltb}
 use lib.ListN.{length, getD, take, drop, length-append, getD-replicate, List·getD-eq-default}
 use lib.Seq.{take-at}
-use Rattle.packets.specs.Packet.{ask}
-use Rattle.packets.specs.Reading.{readAlone, listed, contents}
-use Rattle.packets.specs.Answers.{lengthAllowed, imageWithin}
-use Rattle.packets.specs.declared.reader.Outcome.the-variants.{Loaded}
-use Rattle.packets.specs.declared.image.ImageAnswer.{ImageAnswer}
-use Rattle.packets.specs.declared.image.ImageAnswer.the-variants.{Accepted, Refused as ImageRefused}
-use Rattle.packets.proofs.Laws.{asked, length-allowed, onAnswer, by-answer, accepted-length, ends-within, local}
+use Rattle.base.specs.Question.{ask}
+use Rattle.bootreader.specs.Reading.{readAlone, listed}
+use Rattle.packets.specs.Trace.{contents}
+use Rattle.bootreader.specs.Answers.{lengthAllowed, imageWithin}
+use Rattle.bootreader.specs.declared.reader.Outcome.the-variants.{Loaded}
+use Rattle.bootreader.specs.declared.image.ImageAnswer.{ImageAnswer}
+use Rattle.bootreader.specs.declared.image.ImageAnswer.the-variants.{Accepted, Refused as ImageRefused}
+use Rattle.base.proofs.Laws.{asked}
+use Rattle.bootreader.proofs.Laws.{length-allowed, onAnswer, by-answer, accepted-length, ends-within, local}
 use Rattle.chip.specs.Layout.{segment, switchAt, goldenAt, updateAllowed, areaAllowed}
 use Rattle.chip.specs.Flash.{erased, over, within}
 use Rattle.chip.specs.Kind.{spi, spiOn, spiHeader, switchWord, goldenArea, Covers, Good, LoadsAlone, Loads}

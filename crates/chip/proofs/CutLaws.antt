@@ -8,7 +8,7 @@ use native.Mathlib.Nat.{zero-add}
 use lib.Bits.{bitAnd}
 use lib.ListN.{length, getD, getD-replicate}
 use lib.Seq.{ext-getD}
-use Rattle.packets.proofs.Laws.{length-allowed}
+use Rattle.bootreader.proofs.Laws.{length-allowed}
 use Rattle.chip.specs.Layout.{segment, switchAt, goldenAt}
 use Rattle.chip.specs.Flash.{erased, span, over, cleared, afterProgram, bit, MayLeave}
 use Rattle.chip.specs.Kind.{Kind, switchWord, goldenArea, Covers, LoadsAlone, Good}

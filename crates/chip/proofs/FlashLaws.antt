@@ -5,9 +5,9 @@ use mathlib.Core.List.{List, [], _∷_, _++_, append-assoc, append-nil}
 use native.Mathlib.Omega.{arith}
 use borrow.Author.Tests.{le-leb}
 use lib.Bits.{bitAnd}
-use lib.ListN.{length, getD, take, drop, length-append, length-replicate, length-drop, drop-of-length-le, List·getD-append}
+use lib.ListN.{length, getD, take, drop, length-append, length-replicate, getD-replicate, length-drop, drop-of-length-le, List·getD-append}
 use lib.Seq.{paste, take-all, take-length, drop-drop, length-take-le, getD-take, getD-drop, getD-append-add, take-append-le, drop-append-le}
-use Rattle.packets.specs.Packet.{ask}
+use Rattle.base.specs.Question.{ask}
 use Rattle.chip.specs.Flash.{erased, span, over, within, cleared}
 
 pub span-at : (chip : List ℕ) (place count i : ℕ) → i < count → getD (span chip place count) i 0 ≡ getD chip (place + i) 0
@@ -96,3 +96,7 @@ cleared-at [] bytes i e h = absurd (omega arith)
 cleared-at (o ∷ old) [] i e h = absurd (omega arith)
 cleared-at (o ∷ old) (b ∷ bytes) zero e h = refl
 cleared-at (o ∷ old) (b ∷ bytes) (suc i) e h = cleared-at old bytes i (omega arith) (omega arith)
+
+-- FF stands at every place of an erased span.
+pub erased-at : (count i : ℕ) → i < count → getD (erased count) i 0 ≡ 0xFF
+erased-at count i h = getD-replicate count i 0xFF 0 h

@@ -5,9 +5,9 @@ use mathlib.Core.Bool.{Bool, true, false}
 use native.Mathlib.Omega.{arith}
 use borrow.Author.Tests.{eqb-true, leb-true, leb-false, ltb-true, le-leb, lt-leb}
 use lib.Dec.{leb}
-use Rattle.packets.proofs.Laws.{asked, false-true}
-use Rattle.packets.specs.Packet.{ask}
-use Rattle.packets.specs.Answers.{lengthAllowed}
+use Rattle.base.proofs.Laws.{asked, false-true}
+use Rattle.base.specs.Question.{ask}
+use Rattle.bootreader.specs.Answers.{lengthAllowed}
 use Rattle.chip.specs.Layout.{updateAllowed, areaAllowed, askLayout}
 use Rattle.chip.specs.Answers.{layoutAnswer}
 use Rattle.chip.specs.declared.kind.Layout.{Layout}

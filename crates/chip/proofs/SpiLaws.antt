@@ -8,13 +8,17 @@ use native.Mathlib.Nat.{zero-add, add-zero}
 use borrow.Author.Tests.{ltb-true, ltb-false, eq-eqb, eqb-true, eqb-false}
 use lib.Dec.{eqb, ltb}
 use lib.ListN.{length, getD, drop}
-use Rattle.packets.specs.Framing.{syncBytes, starts, wordAt}
-use Rattle.packets.specs.Packet.{ask}
-use Rattle.packets.specs.Reading.{readFrom, readChip, readAlone, listed, contents}
-use Rattle.packets.specs.Answers.{imageWithin}
-use Rattle.packets.specs.declared.reader.Outcome.the-variants.{Loaded}
-use Rattle.packets.specs.declared.image.ImageAnswer.the-variants.{Accepted}
-use Rattle.packets.proofs.Laws.{alone-stays, false-true, length-allowed, differs-at, word-of, NoneIn, search-past, jumps-to, placed, placed-contents, ends-within, accepted-reads}
+use Rattle.framing.specs.Search.{syncBytes, starts}
+use Rattle.framing.specs.Words.{wordAt}
+use Rattle.base.specs.Question.{ask}
+use Rattle.bootreader.specs.Reading.{readFrom, readChip, readAlone, listed}
+use Rattle.packets.specs.Trace.{contents}
+use Rattle.bootreader.specs.Answers.{imageWithin}
+use Rattle.bootreader.specs.declared.reader.Outcome.the-variants.{Loaded}
+use Rattle.bootreader.specs.declared.image.ImageAnswer.the-variants.{Accepted}
+use Rattle.bootreader.proofs.Laws.{alone-stays, length-allowed, NoneIn, search-past, jumps-to, placed, placed-contents, ends-within, accepted-reads}
+use Rattle.base.proofs.Laws.{false-true}
+use Rattle.framing.proofs.Laws.{differs-at, word-of}
 use Rattle.chip.specs.Layout.{segment, switchAt, goldenAt}
 use Rattle.chip.specs.Kind.{spi, spiOn, spiHeader, switchWord, goldenArea, Good, LoadsAlone, Loads, Stands, Lawful}
 use Rattle.chip.proofs.FlashLaws.{span-at, span-length}

@@ -6,8 +6,9 @@ use mathlib.Core.List.{List}
 use native.Mathlib.Omega.{arith}
 use lib.ListN.{length, getD, drop}
 use lib.Seq.{getD-drop}
-use Rattle.packets.specs.Framing.{syncBytes, starts}
-use Rattle.packets.proofs.Laws.{false-of, false-true, starts-at, starts-all, starts-differs}
+use Rattle.framing.specs.Search.{syncBytes, starts}
+use Rattle.base.proofs.Laws.{false-of, false-true}
+use Rattle.framing.proofs.Laws.{starts-at, starts-all, starts-differs}
 use Rattle.chip.specs.Layout.{switchAt}
 use Rattle.chip.specs.Flash.{bit}
 use Rattle.chip.specs.Kind.{spi, spiOn, switchWord, Covers}

@@ -4,8 +4,8 @@ use mathlib.Core.Bool.{Bool, true, false}
 use mathlib.Core.List.{List}
 use lib.Dec.{leb}
 use lib.ListN.{length, take}
-use Rattle.packets.specs.Packet.{ask}
-use Rattle.packets.specs.Answers.{lengthAllowed, askImage}
+use Rattle.base.specs.Question.{ask}
+use Rattle.bootreader.specs.Answers.{lengthAllowed, askImage}
 use Rattle.chip.specs.Layout.{segment, goldenAt, askLayout}
 use Rattle.chip.specs.Flash.{erased, over}
 use Rattle.chip.specs.Kind.{spi, spiHeader, switchWord, Loads}

@@ -4,12 +4,13 @@ use mathlib.Core.Path.{_≡_}
 use mathlib.Core.Bool.{Bool, true, false}
 use mathlib.Core.List.{List, [], _∷_, _++_}
 use lib.ListN.{length, getD}
-use Rattle.packets.specs.Framing.{starts}
-use Rattle.packets.specs.Reading.{readChip, readAlone, listed, contents}
-use Rattle.packets.specs.Answers.{lengthAllowed}
-use Rattle.packets.specs.declared.reader.Outcome.{Outcome}
-use Rattle.packets.specs.declared.reader.Outcome.the-variants.{Loaded}
-use Rattle.packets.specs.declared.writes.Write.{Write}
+use Rattle.framing.specs.Search.{starts}
+use Rattle.bootreader.specs.Reading.{readChip, readAlone, listed}
+use Rattle.packets.specs.Trace.{contents}
+use Rattle.bootreader.specs.Answers.{lengthAllowed}
+use Rattle.bootreader.specs.declared.reader.Outcome.{Outcome}
+use Rattle.bootreader.specs.declared.reader.Outcome.the-variants.{Loaded}
+use Rattle.packets.specs.declared.trace.Write.{Write}
 use Rattle.chip.specs.Layout.{segment, switchAt, goldenAt, updateAllowed}
 use Rattle.chip.specs.Flash.{erased, span, bit}
 

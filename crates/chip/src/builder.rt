@@ -11,8 +11,8 @@ use crate::flash::write;
 use crate::kind::Layout;
 use crate::kind::LayoutAnswer;
 use crate::kind::Spi;
-use packets::image::ImageAnswer;
-use packets::image::check_within;
+use bootreader::image::ImageAnswer;
+use bootreader::image::check_within;
 
 // The chip was built, or a refusal that left the buffer as it was.
 pub enum BuildAnswer {

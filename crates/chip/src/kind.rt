@@ -2,7 +2,7 @@
 ghost use mathlib.Core.Path.{_≡_};
 ghost use Rattle.chip.specs.Layout.{updateAllowed, areaAllowed};
 ghost use Rattle.chip.specs.Answers.{layoutOf, layoutAnswer};
-use packets::chip::length_allowed;
+use bootreader::chip::length_allowed;
 
 // F, U and A of the specification: the chip's length, where its update area begins, and how long that is.
 pub struct Layout {

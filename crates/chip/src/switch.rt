@@ -2,7 +2,7 @@
 ghost use mathlib.Core.Path.{_≡_};
 ghost use Rattle.chip.specs.Answers.{switchAnswer};
 use crate::kind::Spi;
-use packets::chip::length_allowed;
+use bootreader::chip::length_allowed;
 
 // ON or OFF, or a refusal.
 pub enum SwitchAnswer {

@@ -4,14 +4,14 @@ use mathlib.Core.Bool.{cond}
 use mathlib.Core.List.{List}
 use lib.Dec.{eqb}
 use lib.ListN.{length}
-use Rattle.packets.specs.Packet.{ask}
-use Rattle.packets.specs.Answers.{bootAnswer, chipWrite, imageAnswer}
-use Rattle.packets.specs.declared.chip.BootAnswer.{BootAnswer}
-use Rattle.packets.specs.declared.chip.BootAnswer.the-variants.{Loaded, Stuck, Refused as BootRefused}
-use Rattle.packets.specs.declared.writes.WriteAnswer.{WriteAnswer}
-use Rattle.packets.specs.declared.writes.WriteAnswer.the-variants.{Found, Nothing, Refused as WriteRefused}
-use Rattle.packets.specs.declared.image.ImageAnswer.{ImageAnswer}
-use Rattle.packets.specs.declared.image.ImageAnswer.the-variants.{Accepted, Refused as ImageRefused}
+use Rattle.base.specs.Question.{ask}
+use Rattle.bootreader.specs.Answers.{bootAnswer, chipWrite, imageAnswer}
+use Rattle.bootreader.specs.declared.chip.BootAnswer.{BootAnswer}
+use Rattle.bootreader.specs.declared.chip.BootAnswer.the-variants.{Loaded, Stuck, Refused as BootRefused}
+use Rattle.packets.specs.declared.trace.WriteAnswer.{WriteAnswer}
+use Rattle.packets.specs.declared.trace.WriteAnswer.the-variants.{Found, Nothing, Refused as WriteRefused}
+use Rattle.bootreader.specs.declared.image.ImageAnswer.{ImageAnswer}
+use Rattle.bootreader.specs.declared.image.ImageAnswer.the-variants.{Accepted, Refused as ImageRefused}
 use Rattle.mcs.specs.declared.reader.ReadAnswer.{ReadAnswer}
 use Rattle.mcs.specs.declared.reader.ReadAnswer.the-variants.{Read, Refused as ReadRefused}
 use Rattle.chip.specs.Answers.{layoutOf, buildAnswer, buildOutput}
@@ -20,14 +20,14 @@ use Rattle.chip.specs.declared.builder.BuildAnswer.{BuildAnswer}
 use Rattle.chip.specs.declared.builder.BuildAnswer.the-variants.{Built, Refused as BuildRefused}
 use Rattle.chip.specs.Kind.{spi}
 use Rattle.updater.specs.Answers.{startAnswer, totalAnswer, orderRefused, orderAnswer, replyAnswer, finishedAnswer}
-use Rattle.updater.specs.Bench.{benchLayout, benchAnswer, benchOutput}
+use Rattle.bench.specs.Bench.{benchLayout, benchAnswer, benchOutput}
 use Rattle.updater.specs.declared.run.State.{State}
 use Rattle.updater.specs.declared.run.StartAnswer.{StartAnswer}
 use Rattle.updater.specs.declared.run.StartAnswer.the-variants.{Started, Refused as StartRefused}
 use Rattle.updater.specs.declared.run.TotalAnswer.{TotalAnswer}
 use Rattle.updater.specs.declared.run.TotalAnswer.the-variants.{Total, Refused as TotalRefused}
-use Rattle.updater.specs.declared.run.Operation.{Operation}
-use Rattle.updater.specs.declared.run.Operation.the-variants.{Erase, Program, Look}
+use Rattle.updater.specs.declared.orders.Operation.{Operation}
+use Rattle.updater.specs.declared.orders.Operation.the-variants.{Erase, Program, Look}
 use Rattle.updater.specs.declared.run.Asked.{Asked}
 use Rattle.updater.specs.declared.run.Asked.the-variants.{Ordered, Refused as OrderRefused}
 use Rattle.updater.specs.declared.run.OrderAnswer.{OrderAnswer}
@@ -35,8 +35,8 @@ use Rattle.updater.specs.declared.run.ReplyAnswer.{ReplyAnswer}
 use Rattle.updater.specs.declared.run.ReplyAnswer.the-variants.{Next, Stopped, Refused as ReplyRefused}
 use Rattle.updater.specs.declared.run.FinishedAnswer.{FinishedAnswer}
 use Rattle.updater.specs.declared.run.FinishedAnswer.the-variants.{Running, Ended, Refused as FinishedRefused}
-use Rattle.updater.specs.declared.bench.BenchAnswer.{BenchAnswer}
-use Rattle.updater.specs.declared.bench.BenchAnswer.the-variants.{Reached, Refused as BenchRefused}
+use Rattle.bench.specs.declared.BenchAnswer.{BenchAnswer}
+use Rattle.bench.specs.declared.BenchAnswer.the-variants.{Reached, Refused as BenchRefused}
 use Rattle.host.specs.declared.text.TealsettleRead.{TealsettleRead}
 use Rattle.host.specs.declared.boot.TealsettleBoot.{TealsettleBoot}
 use Rattle.host.specs.declared.boot.TealsettleWrite.{TealsettleWrite}
@@ -49,7 +49,7 @@ use Rattle.host.specs.declared.run.OrderNumbers.{OrderNumbers}
 use Rattle.host.specs.declared.run.TealsettleOrder.{TealsettleOrder}
 use Rattle.host.specs.declared.run.TealsettleReply.{TealsettleReply}
 use Rattle.host.specs.declared.run.TealsettleFinished.{TealsettleFinished}
-use Rattle.host.specs.declared.bench.TealsettleBench.{TealsettleBench}
+use Rattle.host.specs.declared.cut.TealsettleBench.{TealsettleBench}
 
 -- The kind of chip is asked before everything else. 0 is SPI, and there is no other: 1 at 0, or 7 at 0 where a run's state is given. Below, `…Result` gives the numbers for each case of the library's answer, and `…Of` what the function gives for a kind.
 abbrev pub askKind {ℓ} : {A : Type ℓ} → ℕ → A → A → A

@@ -2,11 +2,11 @@
 ghost use mathlib.Core.Path.{_≡_};
 ghost use Rattle.host.specs.Results.{bootResult, bootOf, writeResult, writeOf, imageResult, imageOf};
 use crate::kind::SPI;
-use packets::chip as loader;
-use packets::chip::BootAnswer;
-use packets::image;
-use packets::image::ImageAnswer;
-use packets::writes::WriteAnswer;
+use bootreader::chip as loader;
+use bootreader::chip::BootAnswer;
+use bootreader::image;
+use bootreader::image::ImageAnswer;
+use packets::trace::WriteAnswer;
 
 // A refusal's number and place; or 0, and whether the chip is stuck and at which place, else what it
 // loads.

@@ -9,7 +9,7 @@ use chip::kind::Spi;
 use updater::run;
 use updater::run::Asked;
 use updater::run::FinishedAnswer;
-use updater::run::Operation;
+use updater::orders::Operation;
 use updater::run::ReplyAnswer;
 use updater::run::StartAnswer;
 use updater::run::State;

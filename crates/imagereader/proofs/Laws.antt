@@ -7,21 +7,23 @@ use native.Mathlib.Omega.{arith}
 use lib.ListN.{length, take}
 use lib.Seq.{take-all}
 use denote.Ref.{RefT, now}
-use Rattle.packets.specs.Reading.{readAlone, listed, nthWrite}
-use Rattle.packets.specs.Cursor.{cursorAt, rest, stepOf, told}
-use Rattle.packets.specs.Answers.{cursorOf, longestImage, imageAnswer, imageWrite}
-use Rattle.packets.specs.declared.reader.Outcome.{Outcome}
-use Rattle.packets.specs.declared.reader.Outcome.the-variants.{Loaded}
-use Rattle.packets.specs.declared.image.ImageAnswer.{ImageAnswer}
-use Rattle.packets.specs.declared.image.ImageAnswer.the-variants.{Accepted, Refused}
-use Rattle.packets.specs.declared.writes.Write.{Write}
-use Rattle.packets.specs.declared.writes.WriteAnswer.the-variants.{Refused as WriteRefused}
-use Rattle.packets.specs.declared.writes.Cursor.{Cursor}
-use Rattle.packets.specs.declared.writes.CursorStep.{CursorStep}
-use Rattle.packets.specs.declared.writes.CursorStep.the-variants.{Wrote, Done}
-use Rattle.packets.specs.declared.writes.Listing.{Listing}
-use Rattle.packets.specs.declared.writes.Listing.the-variants.{Open, Refused as ListingRefused}
-use Rattle.packets.proofs.Laws.{told-rest, onAnswer, write-by-answer, listing-by-answer, accepted-reads, opened-rest, listed-length}
+use Rattle.bootreader.specs.Reading.{readAlone, listed}
+use Rattle.packets.specs.Trace.{nthWrite}
+use Rattle.writes.specs.Cursor.{cursorAt, rest, stepOf, told}
+use Rattle.bootreader.specs.Answers.{cursorOf, longestImage, imageAnswer, imageWrite}
+use Rattle.bootreader.specs.declared.reader.Outcome.{Outcome}
+use Rattle.bootreader.specs.declared.reader.Outcome.the-variants.{Loaded}
+use Rattle.bootreader.specs.declared.image.ImageAnswer.{ImageAnswer}
+use Rattle.bootreader.specs.declared.image.ImageAnswer.the-variants.{Accepted, Refused}
+use Rattle.packets.specs.declared.trace.Write.{Write}
+use Rattle.packets.specs.declared.trace.WriteAnswer.the-variants.{Refused as WriteRefused}
+use Rattle.writes.specs.declared.cursor.Cursor.{Cursor}
+use Rattle.writes.specs.declared.cursor.CursorStep.{CursorStep}
+use Rattle.writes.specs.declared.cursor.CursorStep.the-variants.{Wrote, Done}
+use Rattle.writes.specs.declared.cursor.Listing.{Listing}
+use Rattle.writes.specs.declared.cursor.Listing.the-variants.{Open, Refused as ListingRefused}
+use Rattle.writes.proofs.Laws.{told-rest}
+use Rattle.bootreader.proofs.Laws.{onAnswer, write-by-answer, listing-by-answer, accepted-reads, opened-rest, listed-length}
 use Rattle.imagereader.specs.declared.Reader.{Reader}
 use Rattle.imagereader.specs.Reader.{takenStep, takenFrom, readerAt, nthNext, before, readOut}
 

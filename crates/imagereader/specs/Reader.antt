@@ -2,16 +2,16 @@
 use Prim.Native.Nat.{ℕ, zero, suc}
 use mathlib.Core.List.{List, [], _∷_}
 use denote.Ref.{RefT, now}
-use Rattle.packets.specs.Cursor.{stepOf}
-use Rattle.packets.specs.Answers.{imageListing}
-use Rattle.packets.specs.declared.writes.Cursor.{Cursor}
-use Rattle.packets.specs.declared.writes.CursorStep.{CursorStep}
-use Rattle.packets.specs.declared.writes.CursorStep.the-variants.{Wrote, Done}
-use Rattle.packets.specs.declared.writes.Listing.{Listing}
-use Rattle.packets.specs.declared.writes.Listing.the-variants.{Open, Refused}
-use Rattle.packets.specs.declared.writes.Write.{Write}
-use Rattle.packets.specs.declared.writes.WriteAnswer.{WriteAnswer}
-use Rattle.packets.specs.declared.writes.WriteAnswer.the-variants.{Found, Nothing, Refused as WriteRefused}
+use Rattle.writes.specs.Cursor.{stepOf}
+use Rattle.bootreader.specs.Answers.{imageListing}
+use Rattle.writes.specs.declared.cursor.Cursor.{Cursor}
+use Rattle.writes.specs.declared.cursor.CursorStep.{CursorStep}
+use Rattle.writes.specs.declared.cursor.CursorStep.the-variants.{Wrote, Done}
+use Rattle.writes.specs.declared.cursor.Listing.{Listing}
+use Rattle.writes.specs.declared.cursor.Listing.the-variants.{Open, Refused}
+use Rattle.packets.specs.declared.trace.Write.{Write}
+use Rattle.packets.specs.declared.trace.WriteAnswer.{WriteAnswer}
+use Rattle.packets.specs.declared.trace.WriteAnswer.the-variants.{Found, Nothing, Refused as WriteRefused}
 use Rattle.imagereader.specs.declared.Reader.{Reader}
 use Rattle.imagereader.specs.declared.Taken.{Taken}
 

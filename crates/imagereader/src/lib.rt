@@ -2,13 +2,13 @@
 // by itself, one at a time. Making one checks the whole image; each write is then read on from the last,
 // and no byte is copied.
 ghost use mathlib.Core.Path.{_≡_};
-ghost use Rattle.packets.specs.Answers.{imageWrite};
+ghost use Rattle.bootreader.specs.Answers.{imageWrite};
 ghost use Rattle.imagereader.specs.Reader.{takenStep, takenFrom, takenBy, placeOf, readerAt, moved};
-use packets::image;
-use packets::writes::Cursor;
-use packets::writes::CursorStep;
-use packets::writes::Listing;
-use packets::writes::WriteAnswer;
+use bootreader::image;
+use writes::cursor::Cursor;
+use writes::cursor::CursorStep;
+use writes::cursor::Listing;
+use packets::trace::WriteAnswer;
 
 // An image, and where among its writes the reader is: before the next one, or at the refusal of the
 // image check.

@@ -8,7 +8,8 @@ use borrow.Author.Tests.{le-leb, lt-leb}
 use lib.Dec.{leb}
 use lib.ListN.{length, take, drop, length-append}
 use lib.Seq.{take-at}
-use Rattle.mcs.specs.Reading.{ask, Reading, Holds, Refused, readText}
+use Rattle.base.specs.Question.{ask}
+use Rattle.mcs.specs.Reading.{Reading, Holds, Refused, readText}
 use Rattle.mcs.specs.Answers.{answerOf, filledBy, readAnswer, readOutput}
 use Rattle.mcs.specs.Place.{sizeOf, Fits}
 use Rattle.mcs.specs.declared.reader.ReadAnswer.the-variants.{Read, Refused as ReadRefused}

@@ -9,7 +9,8 @@ use lib.Dec.{eqb}
 use lib.ListN.{length, length-append}
 use Rattle.base.proofs.Laws.{false-true}
 use Rattle.mcs.specs.Text.{LF, CR, COLON, hex, Ending, Lf, CrLf, endingText, lineText, Record, Data, Upper, End, bodyOf, sumOf, pairsOf, Line, Row, recordText, fileText, AllBytes, Fit, FileFrom, FileOf}
-use Rattle.mcs.specs.Reading.{ask, Parsed, Is, Refuses, parsed, follows, before, linesOf, isEmpty, Holds, readFrom, readText}
+use Rattle.base.specs.Question.{ask}
+use Rattle.mcs.specs.Reading.{Parsed, Is, Refuses, parsed, follows, before, linesOf, isEmpty, Holds, readFrom, readText}
 use Rattle.mcs.proofs.LineLaws.{lines-none, lines-lf, lines-on, before-line}
 use Rattle.mcs.proofs.ReadingLaws.{read-none, read-refused, read-apart, read-data, read-upper, read-end, read-more, none-none, none-some}
 use Rattle.mcs.proofs.FillLaws.{refused-holds}

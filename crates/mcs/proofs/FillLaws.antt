@@ -9,7 +9,8 @@ use lib.Dec.{ltb}
 use lib.ListN.{length, drop, length-append, length-drop}
 use lib.Seq.{paste, take-at, take-length, drop-append-add, drop-drop}
 use Rattle.mcs.specs.Text.{Data, Upper, End}
-use Rattle.mcs.specs.Reading.{ask, Parsed, Is, Refuses, parsed, follows, isEmpty, Reading, Holds, Refused, readFrom, readText}
+use Rattle.base.specs.Question.{ask}
+use Rattle.mcs.specs.Reading.{Parsed, Is, Refuses, parsed, follows, isEmpty, Reading, Holds, Refused, readFrom, readText}
 use Rattle.mcs.specs.Answers.{filledBy}
 use Rattle.mcs.specs.Place.{ArePairs, pairsAt, lineAt, Sound, asLine, Fits}
 use Rattle.mcs.specs.declared.line.Line.{Line}

@@ -11,7 +11,8 @@ use lib.Seq.{getD-drop, drop-drop, drop-cons}
 use native.Mathlib.Nat.{add-zero}
 use native.Mathlib.Numerals.{add-one}
 use Rattle.mcs.specs.Text.{LF, CR, COLON, digits}
-use Rattle.mcs.specs.Reading.{ask, Spelled, placeIn, digitOf, isDigit, isEnding, Pairs, Broken, onto, spelledBy, lineSpells, before, linesOf}
+use Rattle.base.specs.Question.{ask}
+use Rattle.mcs.specs.Reading.{Spelled, placeIn, digitOf, isDigit, isEnding, Pairs, Broken, onto, spelledBy, lineSpells, before, linesOf}
 use Rattle.mcs.specs.Place.{pairAt, IsPair, ArePairs, pairsAt, endingOf, endingAt, firstLine, lineAt}
 
 place-most : (ds : List ℕ) (c : ℕ) → placeIn ds c ≤ length ds

@@ -10,7 +10,8 @@ use mathlib.Core.Bool.{Bool, true, false}
 use lib.Dec.{eqb}
 use lib.ListN.{length, getD, take, drop}
 use Rattle.mcs.specs.Text.{Data, Upper, End, total}
-use Rattle.mcs.specs.Reading.{ask, countOf, twoAt, addressOf, typeOf, byType, Is, Refuses, typed}
+use Rattle.base.specs.Question.{ask}
+use Rattle.mcs.specs.Reading.{countOf, twoAt, addressOf, typeOf, byType, Is, Refuses, typed}
 use Rattle.mcs.specs.Place.{pairAt, IsPair, ArePairs, pairsAt}
 
 module _ (text : List ℕ) where

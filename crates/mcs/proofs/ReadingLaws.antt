@@ -6,7 +6,8 @@ use mathlib.Core.List.{List, [], _∷_, _++_}
 use native.Mathlib.Omega.{arith}
 use lib.ListN.{length, length-append, take, drop, drop-of-length-le}
 use Rattle.mcs.specs.Text.{Data, Upper, End}
-use Rattle.mcs.specs.Reading.{ask, countOf, twoAt, addressOf, Parsed, Is, Refuses, typed, parsed, byParsed, follows, linesOf, isEmpty, Reading, Holds, Refused, readFrom, readText}
+use Rattle.base.specs.Question.{ask}
+use Rattle.mcs.specs.Reading.{countOf, twoAt, addressOf, Parsed, Is, Refuses, typed, parsed, byParsed, follows, linesOf, isEmpty, Reading, Holds, Refused, readFrom, readText}
 use Rattle.mcs.specs.Place.{pairAt, ArePairs, pairsAt, endingAt, lineAt, Sound, Orderly, asLine}
 use Rattle.mcs.specs.declared.line.Line.{Line}
 use Rattle.mcs.specs.declared.line.Line.the-variants.{Data as DataLine, Upper as UpperLine, End as EndLine, Refused as LineRefused}

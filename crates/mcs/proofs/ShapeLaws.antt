@@ -8,7 +8,8 @@ use borrow.Author.Tests.{eqb-true, eqb-false, eq-eqb, ne-eqb}
 use lib.Dec.{eqb}
 use lib.ListN.{length, getD}
 use Rattle.mcs.specs.Text.{COLON, total}
-use Rattle.mcs.specs.Reading.{ask, Spelled, Pairs, Broken, bySpelled, lineSpells, countOf, Refuses, typed, parsed}
+use Rattle.base.specs.Question.{ask}
+use Rattle.mcs.specs.Reading.{Spelled, Pairs, Broken, bySpelled, lineSpells, countOf, Refuses, typed, parsed}
 use Rattle.mcs.specs.Place.{pairAt, ArePairs, pairsAt, endingAt, lineAt, Summed, Sound, Orderly, ShapeIs}
 use Rattle.mcs.specs.declared.line.Shape.{Shape}
 use Rattle.mcs.specs.declared.line.Shape.the-variants.{Shaped, Broken as NoShape}

@@ -3,7 +3,8 @@ use Prim.Native.Nat.{ℕ}
 use mathlib.Core.List.{List, _++_}
 use lib.Dec.{leb}
 use lib.ListN.{length, drop}
-use Rattle.mcs.specs.Reading.{ask, Reading, Holds, Refused, readText}
+use Rattle.base.specs.Question.{ask}
+use Rattle.mcs.specs.Reading.{Reading, Holds, Refused, readText}
 use Rattle.mcs.specs.declared.reader.ReadAnswer.{ReadAnswer}
 use Rattle.mcs.specs.declared.reader.ReadAnswer.the-variants.{Read, Refused as ReadRefused}
 

@@ -3,21 +3,21 @@ ghost use mathlib.Core.Path.{_≡_};
 ghost use mathlib.Core.Bool.{true};
 ghost use Prim.Native.Nat.{_/_, _%_};
 ghost use Rattle.packets.specs.declared.header.Header.the-variants.{Type1, Type2};
-ghost use Rattle.packets.specs.Packet.{registerOk, type1Of, type2Of, headOf, effectOf};
+ghost use Rattle.packets.specs.Header.{registerOk, type1Of, type2Of, headOf, effectOf};
 
-pub(crate) const CMD: u32 = 4;
+pub const CMD: u32 = 4;
 
-pub(crate) const WBSTAR: u32 = 16;
+pub const WBSTAR: u32 = 16;
 
 // The header of a no-operation: there is but one.
-pub(crate) const NOP: u32 = 0x2000_0000;
+pub const NOP: u32 = 0x2000_0000;
 
 const DESYNC: u32 = 0x0000_000D;
 
 const IPROG: u32 = 0x0000_000F;
 
 // What a word says as a header.
-pub(crate) enum Header {
+pub enum Header {
     Nop,
     Type1 { register: u32, count: u32 },
     Type2 { count: u32 },
@@ -25,7 +25,7 @@ pub(crate) enum Header {
 }
 
 // What a data word does to the reading.
-pub(crate) enum Effect {
+pub enum Effect {
     GoesOn,
     Desync,
     Iprog,
@@ -79,7 +79,7 @@ fn type2(word: u32) -> Header
     }
 }
 
-pub(crate) fn header_of(word: u32) -> Header
+pub fn header_of(word: u32) -> Header
     ensures { λ r. ⌜ r ≡ headOf word ⌝ }
 {
     let kind = word / 0x2000_0000;
@@ -94,7 +94,7 @@ pub(crate) fn header_of(word: u32) -> Header
 
 // Is this the header of a type 1 write? A yes is sure; after a no, `header_of` decides. Here and below the
 // word is compared whole, not field by field, so that it is loaded at once where many headers are looked at.
-pub(crate) fn is_type1_write(word: u32) -> bool
+pub fn is_type1_write(word: u32) -> bool
     ensures { λ r. ⌜ (r ≡ true → headOf word ≡ Type1 (word / 8192 % 32) (word % 2048)) ⌝ }
 {
     if word / 0x0004_0000 != 0x0C00 {
@@ -107,13 +107,13 @@ pub(crate) fn is_type1_write(word: u32) -> bool
 }
 
 // Is this the header of a type 2 write?
-pub(crate) fn is_type2_write(word: u32) -> bool
+pub fn is_type2_write(word: u32) -> bool
     ensures { λ r. ⌜ (r ≡ true → headOf word ≡ Type2 (word % 134217728)) ⌝ }
 {
     word / 0x0800_0000 == 0x000A
 }
 
-pub(crate) fn effect_of(register: u32, word: u32) -> Effect
+pub fn effect_of(register: u32, word: u32) -> Effect
     ensures { λ r. ⌜ r ≡ effectOf register word ⌝ }
 {
     if register != CMD {

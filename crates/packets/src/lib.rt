@@ -1,12 +1,5 @@
-// What an FPGA loads from a chip's bytes, or from an image read by itself: bytes to words (framing),
-// words to packets (header), packets to writes (walk), and from sync to sync (reader). On top stand
-// the public calls: `chip` for a chip's bytes, `image` for an image by itself, and `writes` for
-// what both list.
+// The packet rules: one word as a header, and what a data word does (`header`); what reading words gives
+// (`trace`, whose rules are definitions alone).
 
-pub mod chip;
-mod framing;
-mod header;
-pub mod image;
-pub mod reader;
-mod walk;
-pub mod writes;
+pub mod header;
+pub mod trace;

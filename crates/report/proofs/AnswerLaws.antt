@@ -8,18 +8,18 @@ use native.Mathlib.Omega.{arith}
 use borrow.Author.Tests.{le-leb, lt-leb}
 use lib.ListN.{length, drop, length-append}
 use lib.Seq.{take-all}
-use Rattle.packets.specs.Packet.{ask}
-use Rattle.packets.specs.Reading.{readChip, listed}
-use Rattle.packets.specs.Cursor.{rest}
-use Rattle.packets.specs.Answers.{lengthAllowed, bootCase, bootAnswer, chipListing, cursorOf}
-use Rattle.packets.specs.declared.reader.Outcome.{Outcome}
-use Rattle.packets.specs.declared.reader.Outcome.the-variants.{Loaded, Iprog, Stuck}
-use Rattle.packets.specs.declared.chip.BootAnswer.{BootAnswer}
-use Rattle.packets.specs.declared.chip.BootAnswer.the-variants.{Loaded as Boots, Stuck as IsStuck, Refused as BootRefused}
-use Rattle.packets.specs.declared.writes.Write.{Write}
-use Rattle.packets.specs.declared.writes.Cursor.{Cursor}
-use Rattle.packets.specs.declared.writes.Listing.the-variants.{Open, Refused as ListingRefused}
-use Rattle.packets.proofs.Laws.{opened-rest, listed-length}
+use Rattle.base.specs.Question.{ask}
+use Rattle.bootreader.specs.Reading.{readChip, listed}
+use Rattle.writes.specs.Cursor.{rest}
+use Rattle.bootreader.specs.Answers.{lengthAllowed, bootCase, bootAnswer, chipListing, cursorOf}
+use Rattle.bootreader.specs.declared.reader.Outcome.{Outcome}
+use Rattle.bootreader.specs.declared.reader.Outcome.the-variants.{Loaded, Iprog, Stuck}
+use Rattle.bootreader.specs.declared.chip.BootAnswer.{BootAnswer}
+use Rattle.bootreader.specs.declared.chip.BootAnswer.the-variants.{Loaded as Boots, Stuck as IsStuck, Refused as BootRefused}
+use Rattle.packets.specs.declared.trace.Write.{Write}
+use Rattle.writes.specs.declared.cursor.Cursor.{Cursor}
+use Rattle.writes.specs.declared.cursor.Listing.the-variants.{Open, Refused as ListingRefused}
+use Rattle.bootreader.proofs.Laws.{opened-rest, listed-length}
 use Rattle.report.specs.Lines.{loadedLine, writeLines, endLine, stuckLine, reportOf, chipReport}
 use Rattle.report.specs.Answers.{written, filledBy, chipAnswer, chipOutput}
 use Rattle.report.specs.declared.refusal.ReportAnswer.the-variants.{Written, Refused}

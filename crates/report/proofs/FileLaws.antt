@@ -6,13 +6,13 @@ use mathlib.Core.List.{List, append-nil}
 use native.Mathlib.Omega.{arith}
 use borrow.Author.Tests.{le-leb, lt-leb}
 use lib.ListN.{length, drop, drop-of-length-le}
-use Rattle.packets.specs.Packet.{ask}
-use Rattle.packets.specs.Answers.{lengthAllowed}
+use Rattle.base.specs.Question.{ask}
+use Rattle.bootreader.specs.Answers.{lengthAllowed}
 use Rattle.mcs.specs.Reading.{Holds, Refused, readText}
 use Rattle.chip.specs.Answers.{builtChip, buildAnswer, outputOf, buildOutput}
 use Rattle.chip.specs.declared.builder.BuildAnswer.{BuildAnswer}
 use Rattle.chip.specs.declared.builder.BuildAnswer.the-variants.{Built, Refused as NotBuilt}
-use Rattle.packets.proofs.Laws.{asked-yes}
+use Rattle.base.proofs.Laws.{asked-yes}
 use Rattle.chip.proofs.Laws.{golden-room, built-length}
 use Rattle.report.specs.Lines.{refusedLine, chipReport}
 use Rattle.report.specs.Files.{reportLayout, onBuilt, builtReport, onReading, fileReport}

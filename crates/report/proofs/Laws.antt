@@ -6,7 +6,7 @@ use mathlib.Core.List.{List, _++_}
 use native.Mathlib.Omega.{arith}
 use lib.Dec.{leb}
 use lib.ListN.{length, drop, length-append}
-use Rattle.packets.specs.Packet.{ask}
+use Rattle.base.specs.Question.{ask}
 use Rattle.report.specs.Answers.{written, filledBy}
 use Rattle.report.specs.declared.refusal.ReportAnswer.the-variants.{Written, Refused}
 

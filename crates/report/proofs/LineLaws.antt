@@ -5,7 +5,7 @@ use mathlib.Core.Bool.{Bool, true, false}
 use mathlib.Core.List.{List, [], _∷_}
 use native.Mathlib.Omega.{arith}
 use lib.ListN.{length, length-append}
-use Rattle.packets.specs.declared.writes.Write.{Write}
+use Rattle.packets.specs.declared.trace.Write.{Write}
 use Rattle.report.specs.Lines.{ascii, decimal, loadedLine, writeLine, writeLines, endLine, stuckLine, refusedLine}
 use Rattle.report.proofs.FieldLaws.{length-hexadecimal}
 

@@ -5,11 +5,11 @@ use mathlib.Core.List.{List, [], _∷_}
 use native.Mathlib.Omega.{arith}
 use lib.ListN.{length}
 use lib.Seq.{paste, paste-zero, length-paste}
-use Rattle.packets.specs.Cursor.{rest, told}
-use Rattle.packets.specs.declared.writes.Write.{Write}
-use Rattle.packets.specs.declared.writes.Cursor.{Cursor}
-use Rattle.packets.specs.declared.writes.CursorStep.{CursorStep}
-use Rattle.packets.specs.declared.writes.CursorStep.the-variants.{Wrote, Done}
+use Rattle.writes.specs.Cursor.{rest, told}
+use Rattle.packets.specs.declared.trace.Write.{Write}
+use Rattle.writes.specs.declared.cursor.Cursor.{Cursor}
+use Rattle.writes.specs.declared.cursor.CursorStep.{CursorStep}
+use Rattle.writes.specs.declared.cursor.CursorStep.the-variants.{Wrote, Done}
 use Rattle.report.specs.Lines.{writeLine, writeLines}
 use Rattle.report.proofs.PutLaws.{paste-paste}
 use Rattle.report.proofs.LineLaws.{length-write, length-writes}

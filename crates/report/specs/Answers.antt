@@ -3,8 +3,8 @@ use Prim.Native.Nat.{ℕ}
 use mathlib.Core.List.{List, _++_}
 use lib.Dec.{leb}
 use lib.ListN.{length, drop}
-use Rattle.packets.specs.Packet.{ask}
-use Rattle.packets.specs.Answers.{lengthAllowed}
+use Rattle.base.specs.Question.{ask}
+use Rattle.bootreader.specs.Answers.{lengthAllowed}
 use Rattle.report.specs.Lines.{refusedLine, chipReport}
 use Rattle.report.specs.Files.{fileReport}
 use Rattle.report.specs.declared.refusal.ReportAnswer.{ReportAnswer}

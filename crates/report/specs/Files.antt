@@ -3,7 +3,7 @@ use Prim.Native.Nat.{ℕ}
 use mathlib.Core.List.{List}
 use lib.Dec.{leb}
 use lib.ListN.{length}
-use Rattle.packets.specs.Packet.{ask}
+use Rattle.base.specs.Question.{ask}
 use Rattle.mcs.specs.Reading.{Reading, Holds, Refused, readText}
 use Rattle.chip.specs.Answers.{layoutOf, builtChip, buildAnswer}
 use Rattle.chip.specs.declared.kind.Layout.{Layout}

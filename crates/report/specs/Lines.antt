@@ -7,10 +7,10 @@ use mathlib.Core.List.{List, [], _∷_, _++_}
 use lib.Dec.{ltb}
 use lib.ListN.{getD}
 use Rattle.mcs.specs.Text.{digits}
-use Rattle.packets.specs.Reading.{readChip, listed}
-use Rattle.packets.specs.declared.reader.Outcome.{Outcome}
-use Rattle.packets.specs.declared.reader.Outcome.the-variants.{Loaded, Iprog, Stuck}
-use Rattle.packets.specs.declared.writes.Write.{Write}
+use Rattle.bootreader.specs.Reading.{readChip, listed}
+use Rattle.bootreader.specs.declared.reader.Outcome.{Outcome}
+use Rattle.bootreader.specs.declared.reader.Outcome.the-variants.{Loaded, Iprog, Stuck}
+use Rattle.packets.specs.declared.trace.Write.{Write}
 
 -- the bytes of a text
 unfoldable pub ascii : String → List ℕ

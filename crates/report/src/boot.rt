@@ -3,9 +3,9 @@ ghost use mathlib.Core.Path.{_≡_};
 ghost use Prim.Native.Nat.{ℕ, _+_, _*_, _≤_};
 ghost use lib.ListN.{length};
 ghost use lib.Seq.{paste};
-ghost use Rattle.packets.specs.Cursor.{rest};
-ghost use Rattle.packets.specs.Answers.{bootAnswer};
-ghost use Rattle.packets.specs.declared.chip.BootAnswer.the-variants.{Loaded};
+ghost use Rattle.writes.specs.Cursor.{rest};
+ghost use Rattle.bootreader.specs.Answers.{bootAnswer};
+ghost use Rattle.bootreader.specs.declared.chip.BootAnswer.the-variants.{Loaded};
 ghost use Rattle.report.specs.Lines.{writeLines, stuckLine};
 ghost use Rattle.report.specs.Answers.{written, filledBy, chipAnswer, chipOutput};
 use crate::line;
@@ -15,11 +15,11 @@ use crate::line::put_loaded;
 use crate::line::put_stuck;
 use crate::line::put_write;
 use crate::refusal::ReportAnswer;
-use packets::chip::BootAnswer;
-use packets::chip::boot;
-use packets::writes::Cursor;
-use packets::writes::CursorStep;
-use packets::writes::Listing;
+use bootreader::chip::BootAnswer;
+use bootreader::chip::boot;
+use writes::cursor::Cursor;
+use writes::cursor::CursorStep;
+use writes::cursor::Listing;
 
 // The lines of all writes that a cursor has to give, in one pass; the place after them.
 fn put_writes(chip: &[u8], cursor: Cursor, out: &mut [u8], at: usize) -> usize
@@ -69,7 +69,7 @@ fn report_loaded(
             place: 0,
         };
     }
-    let listing = packets::chip::writes(chip);
+    let listing = bootreader::chip::writes(chip);
     let Listing::Open(cursor) = listing else {
         return ReportAnswer::Refused {
             number: 1,

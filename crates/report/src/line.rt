@@ -7,7 +7,7 @@ ghost use Rattle.report.specs.Lines.{decimal, loadedLine, writeLine, end
 use crate::field::decimal_length;
 use crate::field::put_decimal;
 use crate::field::put_hexadecimal;
-use packets::writes::Write;
+use packets::trace::Write;
 
 // The lengths of the lines that have one length.
 pub(crate) const LOADED: usize = 14;

@@ -9,10 +9,10 @@ use borrow.Author.Tests.{leb-true, leb-false, eq-eqb, ne-eqb}
 use lib.Dec.{eqb, leb}
 use lib.ListN.{length, getD, set, take, drop, length-take, length-drop, take-append-drop, drop-of-length-le}
 use lib.Seq.{take-all, take-length, drop-cons, paste-suc}
-use Rattle.packets.specs.Packet.{ask}
-use Rattle.packets.specs.Answers.{imageLength, imageWithin}
-use Rattle.packets.specs.declared.image.ImageAnswer.{ImageAnswer}
-use Rattle.packets.proofs.Laws.{onAnswer, by-answer, length-allowed}
+use Rattle.base.specs.Question.{ask}
+use Rattle.bootreader.specs.Answers.{imageLength, imageWithin}
+use Rattle.bootreader.specs.declared.image.ImageAnswer.{ImageAnswer}
+use Rattle.bootreader.proofs.Laws.{onAnswer, by-answer, length-allowed}
 use Rattle.chip.specs.Layout.{page}
 use Rattle.chip.specs.Flash.{erased}
 use Rattle.chip.specs.Kind.{spi}
@@ -21,16 +21,17 @@ use Rattle.chip.specs.declared.kind.Layout.{Layout}
 use Rattle.chip.specs.declared.kind.LayoutAnswer.{LayoutAnswer}
 use Rattle.chip.proofs.Laws.{area-allowed, onLayout, by-layout}
 use Rattle.updater.specs.Run.{byPhase, count, total, first, after, ended, running, stands, fits}
-use Rattle.updater.specs.Orders.{Order, erase, program, look, filled, pageOf, orderOf, currentOrder, operationOf, programmed, lookedFor, differs}
-use Rattle.updater.specs.Answers.{askRun, startAnswer, totalAnswer, done, read, asksFor, stopOf, compared, comparison, repliedTo}
+use Rattle.updater.specs.Orders.{Order, erase, program, look, pageOf, orderOf, currentOrder, operationOf, programmed, lookedFor}
+use Rattle.comparison.specs.Comparison.{filled, differs, comparison}
+use Rattle.updater.specs.Answers.{askRun, startAnswer, totalAnswer, done, read, asksFor, stopOf, compared, repliedTo}
 use Rattle.updater.specs.declared.run.State.{State}
 use Rattle.updater.specs.declared.run.StartAnswer.{StartAnswer}
 use Rattle.updater.specs.declared.run.StartAnswer.the-variants.{Started, Refused as StartRefused}
 use Rattle.updater.specs.declared.run.TotalAnswer.the-variants.{Total, Refused as TotalRefused}
-use Rattle.updater.specs.declared.run.Operation.{Operation}
-use Rattle.updater.specs.declared.run.Operation.the-variants.{Erase, Program, Look}
-use Rattle.updater.specs.declared.run.Comparison.{Comparison}
-use Rattle.updater.specs.declared.run.Comparison.the-variants.{Same, Differs}
+use Rattle.updater.specs.declared.orders.Operation.{Operation}
+use Rattle.updater.specs.declared.orders.Operation.the-variants.{Erase, Program, Look}
+use Rattle.comparison.specs.declared.Comparison.{Comparison}
+use Rattle.comparison.specs.declared.Comparison.the-variants.{Same, Differs}
 use Rattle.updater.specs.declared.run.ReplyAnswer.{ReplyAnswer}
 use Rattle.updater.specs.declared.run.ReplyAnswer.the-variants.{Next, Stopped, Refused}
 use Rattle.updater.proofs.RunLaws.{phases, numbers-image, fits-says, running-says, image-pages}
@@ -169,27 +170,6 @@ looks-last state image place n e r q =
 pub look-parts : (a b place n : ℕ) → Look a b ≡ Look place n → (a ≡ place) × (b ≡ n)
 look-parts a b place n e = (cc, cc)
 
--- FF from a place on.
-erased-drop : (count n : ℕ) → n ≤ count → drop n (erased count) ≡ erased (count - n)
-erased-drop count zero h = let e : count ≡ count - 0 = omega arith in ap erased e
-erased-drop zero (suc n) h = absurd (omega arith)
-erased-drop (suc count) (suc n) h = let e : count - n ≡ suc count - suc n = omega arith in erased-drop count n (omega arith) ∙ ap erased e
-
--- Bytes stored one by one at the front of others; all of them, over FF, are filled up.
-pub store-next : (bytes others : List ℕ) (i : ℕ) → i < length others → i < length bytes → set (take i bytes ++ drop i others) i (getD bytes i 0) ≡ take (i + 1) bytes ++ drop (i + 1) others
-store-next bytes others i h k =
-    let a : 0 + i ≡ i = omega arith in
-    let b : 0 + suc i ≡ suc i = omega arith in
-    let s : suc i ≡ i + 1 = omega arith in
-    rw (a, b) at (paste-suc others 0 bytes i 0 (omega arith) k) ∙ ap (λ (n : ℕ). take n bytes ++ drop n others) s
-
-pub filled-all : (count : ℕ) (bytes : List ℕ) → length bytes ≤ count → take (length bytes) bytes ++ drop (length bytes) (erased count) ≡ filled count bytes
-filled-all count bytes h = rw (take-length bytes, erased-drop count (length bytes) h) refl
-
--- Bytes whose front is others and whose rest is FF are those others, filled up.
-pub filled-parts : (bytes must : List ℕ) → take (length must) bytes ≡ must → drop (length must) bytes ≡ erased (length bytes - length must) → bytes ≡ filled (length bytes) must
-filled-parts bytes must front rest = sym (take-append-drop (length must) bytes) ∙ ap₂ _++_ front rest
-
 -- A page of an image: how long it is, and its place in the image.
 pub page-length : (image : List ℕ) (i : ℕ) → length (pageOf image i) ≡ min page (length image - page * i)
 page-length image i = length-take page (drop (page * i) image) ∙ ap (min page) (length-drop (page * i) image)
@@ -219,30 +199,6 @@ page-part image i from to e f = go (leb (page * i + page) (length image)) refl (
         let t : to - from ≡ 0 = omega (arith, e, f) in
         let z : drop (page * i) image ≡ [] = drop-of-length-le image {i = page * i} (omega arith) in
         rw (t, z) refl
-
--- Bytes compared one by one with those that must stand there.
-differs-same : (place byte m : ℕ) (bytes must : List ℕ) → byte ≡ m → differs place (byte ∷ bytes) (m ∷ must) ≡ differs (place + 1) bytes must
-unfolding differs
-differs-same place byte m bytes must e = rw (eq-eqb byte m e, differs) refl
-
-differs-other : (place byte m : ℕ) (bytes must : List ℕ) → (byte ≡ m → ⊥) → differs place (byte ∷ bytes) (m ∷ must) ≡ some place
-unfolding differs
-differs-other place byte m bytes must e = rw (ne-eqb byte m e, differs) refl
-
-pub differs-next : (place i : ℕ) (bytes must : List ℕ) → i < length bytes → i < length must → getD bytes i 0 ≡ getD must i 0 →
-    differs (place + (i + 1)) (drop (i + 1) bytes) (drop (i + 1) must) ≡ differs (place + i) (drop i bytes) (drop i must)
-differs-next place i bytes must h k e =
-    let s : i + 1 ≡ suc i = omega arith in
-    let p : place + suc i ≡ place + i + 1 = omega arith in
-    rw (s, p, drop-cons bytes i 0 h, drop-cons must i 0 k) (sym (differs-same (place + i) (getD bytes i 0) (getD must i 0) (drop (suc i) bytes) (drop (suc i) must) e))
-
-pub differs-here : (place i : ℕ) (bytes must : List ℕ) → i < length bytes → i < length must → (getD bytes i 0 ≡ getD must i 0 → ⊥) → differs (place + i) (drop i bytes) (drop i must) ≡ some (place + i)
-differs-here place i bytes must h k e =
-    rw (drop-cons bytes i 0 h, drop-cons must i 0 k) (differs-other (place + i) (getD bytes i 0) (getD must i 0) (drop (suc i) bytes) (drop (suc i) must) e)
-
-pub differs-end : (place i : ℕ) (bytes must : List ℕ) → length bytes ≤ i → differs (place + i) (drop i bytes) (drop i must) ≡ none
-unfolding differs
-differs-end place i bytes must h = rw (drop-of-length-le bytes {i = i} h) refl
 
 -- A reply to a look goes by the comparison,
 unfoldable pub onComparison : Comparison → State → ReplyAnswer

@@ -1,25 +1,5 @@
--- What crates above may count on of the updater, beside the contracts: the demands, for any kind and for the SPI kind.
-use Rattle.chip.specs.Kind.{spi}
-use Rattle.chip.proofs.Laws.{spi-lawful}
-use Rattle.updater.specs.OrderList.{Demand2}
-use Rattle.updater.specs.BenchLife.{BenchLives}
-use Rattle.updater.specs.Life.{Demand3}
-use Rattle.updater.proofs.OrderListTheorem.{demand2}
-use Rattle.updater.proofs.BenchLifeTheorem.{bench-lives}
-use Rattle.updater.proofs.LifeTheorem.{demand3}
-pub use Rattle.updater.proofs.RunLaws.{total-is, after-fits, after-position, position-running, position-ended}
-pub use Rattle.updater.proofs.OrderLaws.{orders-length, current-order, orders-left}
-pub use Rattle.updater.proofs.ReplyLaws.{opened, starts}
-pub use Rattle.updater.proofs.BuiltTheorem.{built-demand3}
-
--- The SPI kind keeps its laws, so its runs give their orders,
-pub spi-demand2 : Demand2 spi
-spi-demand2 = demand2 spi spi-lawful
-
--- what its bench leaves is what a life leaves,
-pub spi-bench : BenchLives spi
-spi-bench = bench-lives spi spi-lawful
-
--- and its chips live as demand 3 says, whoever built them.
-pub spi-demand3 : Demand3 spi
-spi-demand3 = demand3 spi spi-lawful
+-- What crates above may count on of a run, beside the contracts: its numbers, the next state, the list of its orders, and what a start says.
+pub use Rattle.updater.proofs.RunLaws.{phases, Numbers, numbers-image, fits-says, running-says, area-segments, image-pages, area-pages, before-later, total-is, first-fits, after-index, after-phase, last-or-not, after-fits, after-position, position-running, position-ended}
+pub use Rattle.updater.proofs.OrderLaws.{orders-length, current-order, orders-left, orders-ended, page-at}
+pub use Rattle.updater.proofs.StartLaws.{Opened, opened, starts}
+pub use Rattle.updater.proofs.CallLaws.{fits-own, page-length}

@@ -1,16 +1,5 @@
 pub mod RunLaws
 pub mod OrderLaws
-pub mod ReplyLaws
+pub mod StartLaws
 pub mod CallLaws
-pub mod OrderListTheorem
-pub mod EventLaws
-pub mod LifeLaws
-pub mod ObeyLaws
-pub mod MixtureLaws
-pub mod BenchLaws
-pub mod ProgressLaws
-pub mod UncutLaws
-pub mod BenchLifeTheorem
-pub mod LifeTheorem
-pub mod BuiltTheorem
 pub mod Laws

@@ -14,7 +14,8 @@ use Rattle.chip.specs.Kind.{Kind}
 use Rattle.chip.specs.declared.kind.Layout.{Layout}
 use Rattle.chip.proofs.Laws.{getD-any, erased-length}
 use Rattle.updater.specs.Run.{count, before, total, position, running, fits}
-use Rattle.updater.specs.Orders.{Order, erase, filled, pageOf, orderOf, inPhase, ordersBefore, orders, currentOrder}
+use Rattle.updater.specs.Orders.{Order, erase, pageOf, orderOf, inPhase, ordersBefore, orders, currentOrder}
+use Rattle.comparison.specs.Comparison.{filled}
 use Rattle.updater.specs.declared.run.State.{State}
 use Rattle.updater.proofs.RunLaws.{fits-says, running-says, before-later, position-running, position-ended}
 
@@ -97,25 +98,6 @@ orders-ended kind state image e r =
     let p = position-ended state (length image) e r in
     drop-of-length-le (orders kind (state .layout) image) {i = position state} (omega arith)
 
--- Bytes, then FF: byte k, and the same of an image's page.
-pub filled-at : (size : ℕ) (bytes : List ℕ) (k : ℕ) → k < size → getD (filled size bytes) k 0 ≡ getD bytes k 0xFF
-filled-at size bytes k h = go (ltb k (length bytes)) refl
-  where
-    go : (b : Bool) → ltb k (length bytes) ≡ b → getD (filled size bytes) k 0 ≡ getD bytes k 0xFF
-    go true e = let l = ltb-true k (length bytes) e in List·getD-append bytes (erased (size - length bytes)) 0 k l ∙ getD-any bytes k 0 0xFF l
-    go false e =
-        let l = ltb-false k (length bytes) e in
-        let s : k ≡ length bytes + (k - length bytes) = omega arith in
-        ap (λ (i : ℕ). getD (filled size bytes) i 0) s
-        ∙ getD-append-add bytes (erased (size - length bytes)) (k - length bytes) 0
-        ∙ getD-replicate (size - length bytes) (k - length bytes) 0xFF 0 (omega arith)
-        ∙ sym (List·getD-eq-default bytes 0xFF l)
-
+-- Byte k of an image's page.
 pub page-at : (image : List ℕ) (i k d : ℕ) → k < page → getD (pageOf image i) k d ≡ getD image (page * i + k) d
 page-at image i k d h = getD-take page (drop (page * i) image) k d h ∙ getD-drop (page * i) image k d
-
-pub filled-length : (size : ℕ) (bytes : List ℕ) → length bytes ≤ size → length (filled size bytes) ≡ size
-filled-length size bytes h =
-    let a = length-append bytes (erased (size - length bytes)) in
-    let b = erased-length (size - length bytes) in
-    omega arith

@@ -6,9 +6,9 @@ use mathlib.Core.Bool.{Bool, true, false}
 use native.Mathlib.Omega.{arith}
 use borrow.Author.Tests.{ltb-true, ltb-false, leb-true, eqb-true, lt-ltb, le-ltb, eq-eqb}
 use lib.Dec.{eqb, ltb}
-use Rattle.packets.specs.Packet.{ask}
-use Rattle.packets.specs.Answers.{lengthAllowed, imageLength}
-use Rattle.packets.proofs.Laws.{asked, false-true}
+use Rattle.base.specs.Question.{ask}
+use Rattle.bootreader.specs.Answers.{lengthAllowed, imageLength}
+use Rattle.base.proofs.Laws.{asked, false-true}
 use Rattle.chip.specs.Layout.{page, segment, updateAllowed, areaAllowed, askLayout}
 use Rattle.chip.specs.declared.kind.Layout.{Layout}
 use Rattle.chip.proofs.Laws.{area-allowed}

@@ -5,14 +5,15 @@ use mathlib.Core.Option.{Option, some, none}
 use mathlib.Core.List.{List}
 use lib.Dec.{eqb}
 use lib.ListN.{length}
-use Rattle.packets.specs.Packet.{ask}
-use Rattle.packets.specs.Answers.{imageLength, aloneCase}
+use Rattle.base.specs.Question.{ask}
+use Rattle.bootreader.specs.Answers.{imageLength, aloneCase}
 use Rattle.chip.specs.Layout.{page, askLayout}
 use Rattle.chip.specs.Flash.{erased}
 use Rattle.chip.specs.Kind.{Kind}
 use Rattle.chip.specs.declared.kind.Layout.{Layout}
 use Rattle.updater.specs.Run.{byPhase, total, first, after, ended, running, fits}
-use Rattle.updater.specs.Orders.{Order, erase, program, look, currentOrder, operationOf, orderBytes, differs}
+use Rattle.updater.specs.Orders.{Order, erase, program, look, currentOrder, operationOf, orderBytes}
+use Rattle.comparison.specs.Comparison.{differs}
 use Rattle.updater.specs.declared.run.State.{State}
 use Rattle.updater.specs.declared.run.StartAnswer.{StartAnswer}
 use Rattle.updater.specs.declared.run.StartAnswer.the-variants.{Started, Refused as StartRefused}
@@ -22,8 +23,8 @@ use Rattle.updater.specs.declared.run.FinishedAnswer.{FinishedAnswer}
 use Rattle.updater.specs.declared.run.FinishedAnswer.the-variants.{Running, Ended, Refused as FinishedRefused}
 use Rattle.updater.specs.declared.run.Asked.the-variants.{Ordered, Refused as OrderRefused}
 use Rattle.updater.specs.declared.run.OrderAnswer.{OrderAnswer}
-use Rattle.updater.specs.declared.run.Comparison.{Comparison}
-use Rattle.updater.specs.declared.run.Comparison.the-variants.{Same, Differs}
+use Rattle.comparison.specs.declared.Comparison.{Comparison}
+use Rattle.comparison.specs.declared.Comparison.the-variants.{Same, Differs}
 use Rattle.updater.specs.declared.run.ReplyAnswer.{ReplyAnswer}
 use Rattle.updater.specs.declared.run.ReplyAnswer.the-variants.{Next, Stopped, Refused}
 
@@ -81,11 +82,6 @@ stopOf phase = byPhase phase 0 10 0 0 11 0 12 0
 unfoldable pub compared : Option ℕ → State → ReplyAnswer
 compared none state = Next (after state)
 compared (some address) state = Stopped (stopOf (state .phase)) address (ended state (stopOf (state .phase)))
-
--- the same as the code's enum
-unfoldable pub comparison : Option ℕ → Comparison
-comparison none = Same
-comparison (some address) = Differs address
 
 -- questions 8 and 9 by the order
 unfoldable pub repliedTo : Order → State → ℕ → List ℕ → ReplyAnswer

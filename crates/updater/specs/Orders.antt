@@ -9,20 +9,17 @@ use Rattle.chip.specs.Layout.{page, segment, switchAt}
 use Rattle.chip.specs.Flash.{erased, span}
 use Rattle.chip.specs.Kind.{Kind}
 use Rattle.chip.specs.declared.kind.Layout.{Layout}
+use Rattle.comparison.specs.Comparison.{filled}
 use Rattle.updater.specs.Run.{byPhase, count, position}
 use Rattle.updater.specs.declared.run.State.{State}
-use Rattle.updater.specs.declared.run.Operation.{Operation}
-use Rattle.updater.specs.declared.run.Operation.the-variants.{Erase, Program, Look}
+use Rattle.updater.specs.declared.orders.Operation.{Operation}
+use Rattle.updater.specs.declared.orders.Operation.the-variants.{Erase, Program, Look}
 
 -- An order: an erase of so many bytes, a program of bytes, or a look, with the bytes that must stand there.
 pub data Order : Type 0 where
   erase : (place count : ℕ) → Order
   program : (place : ℕ) (bytes : List ℕ) → Order
   look : (place : ℕ) (bytes : List ℕ) → Order
-
--- bytes, then FF up to so many
-abbrev pub filled : ℕ → List ℕ → List ℕ
-filled count bytes = bytes ++ erased (count - length bytes)
 
 -- page i of an image; the last is what remains, and there is nothing after it
 abbrev pub pageOf : List ℕ → ℕ → List ℕ
@@ -88,9 +85,3 @@ lookedFor (look place bytes) = bytes
 -- the bytes beside an order: those that it programs, FF after them up to a page
 abbrev pub orderBytes : Order → List ℕ
 orderBytes order = filled page (programmed order)
-
--- The first address, from a place on, at which bytes are not those that must stand there.
-unfoldable pub differs : ℕ → List ℕ → List ℕ → Option ℕ
-differs place [] must = none
-differs place (byte ∷ bytes) [] = none
-differs place (byte ∷ bytes) (m ∷ must) = elim (eqb byte m) [ true ↦ differs (place + 1) bytes must | false ↦ some place ]

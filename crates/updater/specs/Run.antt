@@ -2,8 +2,8 @@
 use Prim.Native.Nat.{ℕ, zero, suc, _+_, _/_}
 use mathlib.Core.Bool.{Bool, true, false}
 use lib.Dec.{eqb, leb, ltb}
-use Rattle.packets.specs.Packet.{ask}
-use Rattle.packets.specs.Answers.{imageLength}
+use Rattle.base.specs.Question.{ask}
+use Rattle.bootreader.specs.Answers.{imageLength}
 use Rattle.chip.specs.Layout.{page, segment, askLayout}
 use Rattle.chip.specs.declared.kind.Layout.{Layout}
 use Rattle.updater.specs.declared.run.State.{State}

@@ -5,21 +5,29 @@ ghost use Prim.Native.Nat.{_≤_};
 ghost use mathlib.Core.Path.{_≡_};
 ghost use mathlib.Core.Bool.{true};
 ghost use lib.ListN.{length};
-ghost use Rattle.packets.specs.Packet.{ask};
+ghost use Rattle.base.specs.Question.{ask};
 ghost use Rattle.chip.specs.Layout.{page};
 ghost use Rattle.chip.specs.Flash.{erased};
 ghost use Rattle.chip.specs.Kind.{spi, spiOn};
 ghost use Rattle.updater.specs.Run.{count, outcomeAllowed, stands, fits, running, after};
-ghost use Rattle.updater.specs.Orders.{currentOrder, operationOf, programmed, orderBytes, lookedFor, filled, differs};
-ghost use Rattle.updater.specs.Answers.{startAnswer, totalAnswer, finishedCase, finishedAnswer, orderAnswer, done, asksFor, stopOf, compared, comparison, repliedTo, replyAnswer};
-ghost use Rattle.updater.specs.declared.run.Operation.the-variants.{Look};
+ghost use Rattle.updater.specs.Orders.{currentOrder, operationOf, programmed, orderBytes, lookedFor};
+ghost use Rattle.comparison.specs.Comparison.{filled, differs, comparison};
+ghost use Rattle.updater.specs.Answers.{startAnswer, totalAnswer, finishedCase, finishedAnswer, orderAnswer, done, asksFor, stopOf, compared, repliedTo, replyAnswer};
+ghost use Rattle.updater.specs.declared.orders.Operation.the-variants.{Look};
 ghost use Rattle.updater.specs.declared.run.ReplyAnswer.the-variants.{Next, Refused};
 use base::smaller;
+use comparison::Comparison;
+use comparison::compare;
+use crate::orders::Operation;
+use crate::orders::after_order;
+use crate::orders::current_bytes;
+use crate::orders::current_operation;
+use crate::orders::orders_in;
 use chip::kind::Layout;
 use chip::kind::LayoutAnswer;
 use chip::kind::Spi;
-use packets::image::ImageAnswer;
-use packets::image::check_within;
+use bootreader::image::ImageAnswer;
+use bootreader::image::check_within;
 
 // Where a run is: its layout, the length of its image, phase, index of the order in the phase (0 in
 // phase 7), and outcome (0; 10 to 12 in phase 7 after a stop).
@@ -50,14 +58,6 @@ pub enum FinishedAnswer {
     Refused { number: u32, place: usize },
 }
 
-// What is to be done with the chip: an erase of `length` bytes from `place` on, a program of as many, or
-// a look at as many.
-pub enum Operation {
-    Erase { place: usize, length: usize },
-    Program { place: usize, length: usize },
-    Look { place: usize, length: usize },
-}
-
 // The current order, or a refusal.
 pub enum Asked {
     Ordered { operation: Operation },
@@ -86,28 +86,6 @@ pub enum ReplyAnswer {
         place: usize,
         state: State,
     },
-}
-
-// What comparing came to: all bytes agree, or the first address at which they do not.
-enum Comparison {
-    Same,
-    Differs { address: usize },
-}
-
-// How many orders a phase has.
-fn orders_in(layout: Layout, length: usize, phase: u32) -> usize
-    ensures { λ r. ⌜ r ≡ count layout length phase ⌝ }
-{
-    match phase {
-        0 => 1,
-        1 => Spi::SEGMENT / Spi::PAGE,
-        2 => layout.area / Spi::SEGMENT,
-        3 => length / Spi::PAGE + (length % Spi::PAGE + 255) / Spi::PAGE,
-        4 => layout.area / Spi::PAGE,
-        5 => 1,
-        6 => 1,
-        _ => 0,
-    }
 }
 
 fn outcome_allowed(outcome: u32) -> bool
@@ -236,174 +214,6 @@ fn ended_how(state: State) -> FinishedAnswer
     FinishedAnswer::Ended {
         outcome: state.outcome,
     }
-}
-
-// The current order, as far as it can be said without the bytes that it programs.
-pub(crate) fn current_operation(state: State, image: &[u8]) -> Operation
-    requires { ⌜ (fits state (length (now image)) ≡ true) × (running state ≡ true) ⌝ }
-    ensures { λ r. ⌜ r ≡ operationOf (currentOrder spi state (now (image .entry))) ⌝ }
-{
-    let phase = state.phase;
-    let page = state.layout.update + Spi::PAGE * state.index;
-    match phase {
-        0 => Operation::Erase {
-            place: 0,
-            length: Spi::SEGMENT,
-        },
-        1 => Operation::Look {
-            place: Spi::PAGE * state.index,
-            length: Spi::PAGE,
-        },
-        2 => Operation::Erase {
-            place: state.layout.update + Spi::SEGMENT * state.index,
-            length: Spi::SEGMENT,
-        },
-        3 => Operation::Program {
-            place: page,
-            length: smaller(image.len() - Spi::PAGE * state.index, Spi::PAGE),
-        },
-        4 => Operation::Look {
-            place: page,
-            length: Spi::PAGE,
-        },
-        5 => Operation::Program {
-            place: Spi::SWITCH,
-            length: 4,
-        },
-        _ => Operation::Look {
-            place: Spi::SWITCH,
-            length: 4,
-        },
-    }
-}
-
-// Bytes, then FF to the end of a page.
-fn filled_page(bytes: &[u8]) -> [u8; 256]
-    requires { ⌜ length (now bytes) ≤ 256 ⌝ }
-    ensures { λ r. ⌜ r ≡ filled page (now (bytes .entry)) ⌝ }
-{
-    let mut filling = [0xFF; 256];
-    let mut i = 0;
-    while i < bytes.len() {
-        filling[i] = bytes[i];
-        i += 1;
-    }
-    filling
-}
-
-// The bytes that the current order programs: those of the image, those of ON, or none.
-fn programmed_bytes<'a>(state: State, image: &'a [u8], on: &'a [u8]) -> &'a [u8]
-    requires { ⌜ (fits state (length (now image)) ≡ true) × (running state ≡ true) × (now on ≡ spiOn) ⌝ }
-    ensures { λ r. ⌜ (now r ≡ programmed (currentOrder spi state (now (image .entry)))) × (length (now r) ≤ page) ⌝ }
-{
-    if state.phase == 3 {
-        let from = Spi::PAGE * state.index;
-        let to = smaller(from + Spi::PAGE, image.len());
-        return &image[from..to];
-    }
-    if state.phase == 5 {
-        return on;
-    }
-    &image[0..0]
-}
-
-// The bytes that the current order programs, then FF.
-pub(crate) fn current_bytes(state: State, image: &[u8]) -> [u8; 256]
-    requires { ⌜ (fits state (length (now image)) ≡ true) × (running state ≡ true) ⌝ }
-    ensures { λ r. ⌜ r ≡ orderBytes (currentOrder spi state (now (image .entry))) ⌝ }
-{
-    let on = Spi::ON;
-    filled_page(programmed_bytes(state, image, &on))
-}
-
-// The state after the current order.
-pub(crate) fn after_order(state: State) -> State
-    requires { ⌜ (fits state (state .length) ≡ true) × (running state ≡ true) ⌝ }
-    ensures { λ r. ⌜ r ≡ after state ⌝ }
-{
-    let mut next = state;
-    if state.index + 1 < orders_in(state.layout, state.length, state.phase) {
-        next.index = state.index + 1;
-    } else {
-        next.phase = state.phase + 1;
-        next.index = 0;
-    }
-    next
-}
-
-// Whether bytes are the same as others, as many. It never leaves early, so that the compiler compares
-// many at a time.
-fn same(bytes: &[u8], others: &[u8]) -> bool
-    requires { ⌜ length (now bytes) ≡ length (now others) ⌝ }
-    ensures { λ r. ⌜ (r ≡ true → now (bytes .entry) ≡ now (others .entry)) ⌝ }
-{
-    let mut all = true;
-    let mut i = 0;
-    while i < bytes.len() {
-        if bytes[i] != others[i] {
-            all = false;
-        }
-        i += 1;
-    }
-    all
-}
-
-// Whether bytes are all FF. It never leaves early either.
-fn all_erased(bytes: &[u8]) -> bool
-    ensures { λ r. ⌜ (r ≡ true → now (bytes .entry) ≡ erased (length (now (bytes .entry)))) ⌝ }
-{
-    let mut all = true;
-    let mut i = 0;
-    while i < bytes.len() {
-        if bytes[i] != 0xFF {
-            all = false;
-        }
-        i += 1;
-    }
-    all
-}
-
-// Whether bytes are those that must stand there: `must`, then FF.
-fn agree(bytes: &[u8], must: &[u8]) -> bool
-    requires { ⌜ length (now must) ≤ length (now bytes) ⌝ }
-    ensures { λ r. ⌜ (r ≡ true → now (bytes .entry) ≡ filled (length (now (bytes .entry))) (now (must .entry))) ⌝ }
-{
-    let count = must.len();
-    if !same(&bytes[0..count], must) {
-        return false;
-    }
-    all_erased(&bytes[count..])
-}
-
-// The first address, from a place on, at which bytes are not those that must stand there.
-fn first_difference(place: usize, bytes: &[u8], must: &[u8]) -> Comparison
-    requires { ⌜ (place ≤ 16777216) × (length (now must) ≤ length (now bytes)) × (length (now bytes) ≤ 256) ⌝ }
-    ensures { λ r. ⌜ r ≡ comparison (differs place (now (bytes .entry)) (filled (length (now (bytes .entry))) (now (must .entry)))) ⌝ }
-{
-    let mut i = 0;
-    while i < bytes.len() {
-        let mut standing = 0xFF;
-        if i < must.len() {
-            standing = must[i];
-        }
-        if bytes[i] != standing {
-            return Comparison::Differs { address: place + i };
-        }
-        i += 1;
-    }
-    Comparison::Same
-}
-
-// Compares bytes from a place on with those that must stand there: `must`, then FF. Nearly every look
-// agrees, so the slower search for an address waits until one does not.
-fn compare(place: usize, bytes: &[u8], must: &[u8]) -> Comparison
-    requires { ⌜ (place ≤ 16777216) × (length (now must) ≤ length (now bytes)) × (length (now bytes) ≤ 256) ⌝ }
-    ensures { λ r. ⌜ r ≡ comparison (differs place (now (bytes .entry)) (filled (length (now (bytes .entry))) (now (must .entry)))) ⌝ }
-{
-    if agree(bytes, must) {
-        return Comparison::Same;
-    }
-    first_difference(place, bytes, must)
 }
 
 // Compares what a look of the current phase read with what must stand there.

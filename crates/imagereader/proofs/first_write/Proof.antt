@@ -42,10 +42,10 @@ use denote.Triple.Table.{entered, cited}
 use denote.Triple.Walked.{says, Stays, stay-none-slice, walkOf, goes-none-slice, Walks, ends-at, walked, walk-meets}
 use denote.Exit.{yes}
 use denote.Triple.Clauses.{ensured, lasts}
-use Rattle.packets.specs.Answers.{imageWrite}
-use Rattle.packets.specs.declared.writes.WriteAnswer.{WriteAnswer}
-use Rattle.packets.proofs.writes.WriteAnswer as S
-use Rattle.packets.proofs.writes.WriteAnswer.Laws as S′
+use Rattle.bootreader.specs.Answers.{imageWrite}
+use Rattle.packets.specs.declared.trace.WriteAnswer.{WriteAnswer}
+use Rattle.packets.proofs.trace.WriteAnswer as S
+use Rattle.packets.proofs.trace.WriteAnswer.Laws as S′
 use Rattle.imagereader.specs.Reader.{takenBy, readerAt, moved, nthNext}
 use Rattle.imagereader.specs.declared.Reader.{Reader}
 use Rattle.imagereader.proofs.Laws.{reads}

@@ -1,6 +1,6 @@
 -- `take` meets its contract.
 use mathlib.Core.Path.{ap, _∙_}
-use Rattle.packets.specs.declared.writes.CursorStep.{CursorStep}
+use Rattle.writes.specs.declared.cursor.CursorStep.{CursorStep}
 use Rattle.imagereader.specs.Reader.{takenStep, takenFrom}
 use borrow.Author.Needs.{needs}
 use Rattle.imagereader.proofs.take.Statement.{statement}

@@ -5,7 +5,7 @@ use lib.ListN.{length}
 use native.Mathlib.Omega.{arith}
 use Rattle.chip.specs.Answers.{outputOf}
 use Rattle.chip.specs.Layout.{goldenAt}
-use Rattle.packets.proofs.Laws.{accepted-length}
+use Rattle.bootreader.proofs.Laws.{accepted-length}
 use Rattle.chip.proofs.LayoutLaws.{update-allowed, allowed-asks}
 use Rattle.chip.proofs.BuiltLaws.{golden-refused, golden-small, golden-built}
 use borrow.Author.Needs.{needs}

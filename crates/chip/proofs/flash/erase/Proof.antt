@@ -8,7 +8,7 @@ use borrow.Author.Needs.{needs}
 use borrow.Author.Tests.{not-true, not-false, leb-true}
 use lib.ListN.{length, getD, getD-replicate}
 use lib.Seq.{paste, paste-zero, paste-suc, length-paste}
-use Rattle.packets.specs.Packet.{ask}
+use Rattle.base.specs.Question.{ask}
 use Rattle.chip.specs.Flash.{erased, within}
 use Rattle.chip.proofs.FlashLaws.{paste-over, within-over, erased-length}
 use Rattle.chip.proofs.flash.erase.Statement.{statement}

@@ -10,7 +10,7 @@ use borrow.Author.Tests.{not-true, not-false, leb-true}
 use lib.Bits.{bitAnd}
 use lib.ListN.{length, getD}
 use lib.Seq.{paste, paste-zero, paste-suc, length-paste, drop-paste, getD-drop}
-use Rattle.packets.specs.Packet.{ask}
+use Rattle.base.specs.Question.{ask}
 use Rattle.chip.specs.Flash.{span, within, afterProgram}
 use Rattle.chip.proofs.FlashLaws.{span-at, span-length, paste-over, within-over, cleared-length, cleared-at}
 use Rattle.chip.proofs.flash.program.Statement.{statement}

@@ -5,7 +5,7 @@ use native.Mathlib.Omega.{arith}
 use borrow.Author.Needs.{needs}
 use borrow.Author.Tests.{not-true, not-false, leb-true}
 use lib.ListN.{length}
-use Rattle.packets.specs.Packet.{ask}
+use Rattle.base.specs.Question.{ask}
 use Rattle.chip.specs.Flash.{span, within}
 use Rattle.chip.proofs.FlashLaws.{span-length, front-over, within-over}
 use Rattle.chip.proofs.flash.write.Statement.{statement}

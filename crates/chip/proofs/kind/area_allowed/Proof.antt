@@ -3,7 +3,7 @@ use Prim.Native.Nat.{_+_}
 use mathlib.Core.Path.{refl}
 use native.Mathlib.Omega.{arith}
 use borrow.Author.Tests.{eq-eqb, ne-eqb, le-leb, lt-leb}
-use Rattle.packets.specs.Packet.{ask}
+use Rattle.base.specs.Question.{ask}
 use Rattle.chip.specs.Layout.{areaAllowed}
 use Rattle.chip.proofs.LayoutLaws.{fits-after}
 use Rattle.chip.proofs.kind.area_allowed.Statement.{statement}

@@ -2,7 +2,7 @@
 use mathlib.Core.Path.{refl}
 use native.Mathlib.Omega.{arith}
 use borrow.Author.Tests.{eq-eqb, ne-eqb, le-leb, lt-leb}
-use Rattle.packets.specs.Packet.{ask}
+use Rattle.base.specs.Question.{ask}
 use Rattle.chip.specs.Layout.{updateAllowed}
 use borrow.Author.Needs.{needs}
 use Rattle.chip.proofs.kind.update_allowed.Statement.{statement}

@@ -7,8 +7,8 @@ use borrow.Author.Needs.{needs}
 use borrow.Author.Tests.{not-true, not-false, ltb-true, ltb-false}
 use lib.Dec.{ltb}
 use lib.ListN.{getD}
-use Rattle.packets.specs.Packet.{ask}
-use Rattle.packets.proofs.Laws.{length-allowed}
+use Rattle.base.specs.Question.{ask}
+use Rattle.bootreader.proofs.Laws.{length-allowed}
 use Rattle.chip.specs.Layout.{switchAt}
 use Rattle.chip.specs.Kind.{spiOn}
 use Rattle.chip.specs.Answers.{switchCase, switchAnswer}

@@ -1,6 +1,6 @@
 -- `tealsettle_image_check` meets its contract.
 use Rattle.host.specs.Results.{imageResult}
-use Rattle.packets.specs.Packet.{ask}
+use Rattle.base.specs.Question.{ask}
 use borrow.Author.Tests.{eq-eqb, ne-eqb}
 use mathlib.Core.Path.{ap, _∙_}
 use borrow.Author.Needs.{needs}

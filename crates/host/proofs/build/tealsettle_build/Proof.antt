@@ -1,6 +1,6 @@
 -- `tealsettle_build` meets its contract.
 use Rattle.host.specs.Results.{buildResult}
-use Rattle.packets.specs.Packet.{ask}
+use Rattle.base.specs.Question.{ask}
 use Rattle.chip.specs.Answers.{buildAnswer, buildOutput}
 use lib.ListN.{length}
 use denote.Ref.{now}

@@ -1,6 +1,6 @@
 -- `tealsettle_finished` meets its contract.
 use Rattle.host.specs.Results.{finishedResult}
-use Rattle.packets.specs.Packet.{ask}
+use Rattle.base.specs.Question.{ask}
 use Rattle.updater.specs.Answers.{finishedAnswer}
 use borrow.Author.Tests.{eq-eqb, ne-eqb}
 use mathlib.Core.Path.{ap, _∙_}

@@ -1,6 +1,6 @@
 -- `tealsettle_reply` meets its contract.
 use Rattle.host.specs.Results.{replyResult}
-use Rattle.packets.specs.Packet.{ask}
+use Rattle.base.specs.Question.{ask}
 use Rattle.updater.specs.Answers.{replyAnswer}
 use Rattle.updater.specs.declared.run.ReplyAnswer.the-variants.{Refused}
 use Rattle.chip.specs.Kind.{spi}

@@ -1,6 +1,6 @@
 -- `tealsettle_start` meets its contract.
 use Rattle.host.specs.Results.{startResult}
-use Rattle.packets.specs.Packet.{ask}
+use Rattle.base.specs.Question.{ask}
 use Rattle.updater.specs.Answers.{startAnswer}
 use Rattle.chip.specs.Kind.{spi}
 use borrow.Author.Tests.{eq-eqb, ne-eqb}

@@ -1,6 +1,6 @@
 -- `tealsettle_total` meets its contract.
 use Rattle.host.specs.Results.{totalResult}
-use Rattle.packets.specs.Packet.{ask}
+use Rattle.base.specs.Question.{ask}
 use Rattle.updater.specs.Answers.{totalAnswer}
 use borrow.Author.Tests.{eq-eqb, ne-eqb}
 use mathlib.Core.Path.{ap, _∙_}

@@ -38,8 +38,8 @@ use denote.Triple.Table.{entered, cited}
 use denote.Triple.Walked.{says, Stays, stay-none, walkOf, goes-none, Walks, ends-at, walked, walk-meets}
 use denote.Exit.{yes}
 use denote.Triple.Clauses.{ensured, lasts}
-use Rattle.packets.proofs.writes.Listing as S
-use Rattle.packets.proofs.writes.Listing.Laws as S′
+use Rattle.writes.proofs.cursor.Listing as S
+use Rattle.writes.proofs.cursor.Listing.Laws as S′
 use Rattle.imagereader.specs.Reader.{placeOf}
 use Rattle.imagereader.specs.declared.Reader.{Reader}
 use Rattle.imagereader.proofs.Reader as T

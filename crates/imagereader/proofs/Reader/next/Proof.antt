@@ -42,10 +42,10 @@ use denote.Triple.Spec.{Meets, tripleOf}
 use denote.Triple.Table.{entered, cited}
 use denote.Triple.Walked.{says, Stays, stay-ref, walkOf, goes-ref, Walks, ends-at, walked, walk-meets}
 use denote.Triple.Clauses.{ensured, lasts}
-use Rattle.packets.proofs.writes.Listing as S
-use Rattle.packets.proofs.writes.Listing.Laws as S′
-use Rattle.packets.proofs.writes.WriteAnswer as R
-use Rattle.packets.proofs.writes.WriteAnswer.Laws as R′
+use Rattle.writes.proofs.cursor.Listing as S
+use Rattle.writes.proofs.cursor.Listing.Laws as S′
+use Rattle.packets.proofs.trace.WriteAnswer as R
+use Rattle.packets.proofs.trace.WriteAnswer.Laws as R′
 use Rattle.imagereader.specs.Reader.{takenBy}
 use Rattle.imagereader.specs.declared.Reader.{Reader}
 use Rattle.imagereader.specs.declared.Taken.{Taken}

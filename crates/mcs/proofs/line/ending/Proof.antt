@@ -1,10 +1,9 @@
 -- `line::ending` meets its contract.
-use mathlib.Core.Path.{refl}
+use mathlib.Core.Path.{refl, _≡_, sym}
 use Rattle.mcs.proofs.LineLaws.{ending-lf, ending-crlf, ending-cr, ending-none}
 use lib.ListN.{getD, List·getD-eq-default}
 use borrow.Author.Tests.{eq-eqb, ne-eqb}
 use native.Mathlib.Omega.{arith}
-use mathlib.Core.Path.{_≡_, sym}
 use Prim.Native.Nat.{_+_}
 use borrow.Author.Needs.{needs}
 use Rattle.mcs.proofs.line.ending.Statement.{statement}

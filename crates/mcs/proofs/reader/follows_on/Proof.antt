@@ -1,7 +1,8 @@
 -- `reader::follows_on` meets its contract.
 use Prim.Native.Nat.{_+_, _*_}
 use mathlib.Core.Path.{_≡_, refl}
-use Rattle.mcs.specs.Reading.{ask, follows}
+use Rattle.base.specs.Question.{ask}
+use Rattle.mcs.specs.Reading.{follows}
 use borrow.Author.Tests.{eq-eqb, ne-eqb}
 use borrow.Author.Needs.{needs}
 use Rattle.mcs.proofs.reader.follows_on.Statement.{statement}

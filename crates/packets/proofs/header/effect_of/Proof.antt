@@ -1,6 +1,7 @@
 -- `header::effect_of` meets its contract.
 use borrow.Author.Tests.{eq-eqb, ne-eqb}
-use Rattle.packets.specs.Packet.{ask, effectOf}
+use Rattle.base.specs.Question.{ask}
+use Rattle.packets.specs.Header.{effectOf}
 use Rattle.packets.proofs.header.effect_of.Statement.{statement}
 use Rattle.packets.proofs.header.effect_of.Tie as tie
 

@@ -1,7 +1,8 @@
 -- `header::header_of` meets its contract.
 use borrow.Author.Tests.{eq-eqb, ne-eqb}
 use mathlib.Core.Path.{_∙_}
-use Rattle.packets.specs.Packet.{ask, headOf}
+use Rattle.base.specs.Question.{ask}
+use Rattle.packets.specs.Header.{headOf}
 use borrow.Author.Needs.{needs}
 use Rattle.packets.proofs.header.header_of.Statement.{statement}
 use Rattle.packets.proofs.header.header_of.Tie as tie

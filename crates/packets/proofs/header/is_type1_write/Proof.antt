@@ -4,7 +4,8 @@ use mathlib.Core.Path.{_≡_, sym, _∙_}
 use native.Mathlib.Omega.{arith}
 use borrow.Author.Tests.{eq-eqb}
 use Rattle.base.proofs.Laws.{false-true}
-use Rattle.packets.specs.Packet.{ask, headOf, type1Of}
+use Rattle.base.specs.Question.{ask}
+use Rattle.packets.specs.Header.{headOf, type1Of}
 use borrow.Author.Needs.{needs}
 use Rattle.packets.proofs.header.is_type1_write.Statement.{statement}
 use Rattle.packets.proofs.header.is_type1_write.Tie as tie

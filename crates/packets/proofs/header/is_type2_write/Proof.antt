@@ -3,7 +3,8 @@ use Prim.Native.Nat.{_/_, _%_}
 use mathlib.Core.Path.{_≡_}
 use native.Mathlib.Omega.{arith}
 use borrow.Author.Tests.{eqb-true, eq-eqb, ne-eqb}
-use Rattle.packets.specs.Packet.{ask, headOf, type2Of}
+use Rattle.base.specs.Question.{ask}
+use Rattle.packets.specs.Header.{headOf, type2Of}
 use Rattle.packets.proofs.header.is_type2_write.Statement.{statement}
 use Rattle.packets.proofs.header.is_type2_write.Tie as tie
 

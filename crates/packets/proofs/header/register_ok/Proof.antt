@@ -1,6 +1,6 @@
 -- `header::register_ok` meets its contract.
 use mathlib.Core.Path.{refl}
-use Rattle.packets.specs.Packet.{registerOk}
+use Rattle.packets.specs.Header.{registerOk}
 use Rattle.packets.proofs.header.register_ok.Statement.{statement}
 use Rattle.packets.proofs.header.register_ok.Tie as tie
 

@@ -1,7 +1,8 @@
 -- `header::type1` meets its contract: at each return the tests that led there decide the definition.
 use borrow.Author.Tests.{eq-eqb, ne-eqb}
 use mathlib.Core.Path.{sym, _∙_}
-use Rattle.packets.specs.Packet.{ask, type1Of}
+use Rattle.base.specs.Question.{ask}
+use Rattle.packets.specs.Header.{type1Of}
 use borrow.Author.Needs.{needs}
 use Rattle.packets.proofs.header.type1.Statement.{statement}
 use Rattle.packets.proofs.header.type1.Tie as tie

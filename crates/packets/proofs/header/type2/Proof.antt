@@ -1,6 +1,7 @@
 -- `header::type2` meets its contract.
 use borrow.Author.Tests.{eq-eqb, ne-eqb}
-use Rattle.packets.specs.Packet.{ask, type2Of}
+use Rattle.base.specs.Question.{ask}
+use Rattle.packets.specs.Header.{type2Of}
 use Rattle.packets.proofs.header.type2.Statement.{statement}
 use Rattle.packets.proofs.header.type2.Tie as tie
 

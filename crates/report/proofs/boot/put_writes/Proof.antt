@@ -1,6 +1,6 @@
 -- `boot::put_writes` meets its contract. The loop's invariant: the lines that are left give the same as all of them gave at the start.
 use Rattle.report.proofs.ListLaws.{Going, going-start, going-room, going-on, going-done, step-wrote, step-done}
-use Rattle.packets.specs.Cursor.{rest}
+use Rattle.writes.specs.Cursor.{rest}
 use lib.ListN.{length}
 use borrow.Author.Needs.{needs}
 use native.Mathlib.Omega.{arith}

@@ -4,7 +4,7 @@ use Rattle.report.proofs.LineLaws.{length-loaded, length-writes, length
 use Rattle.report.proofs.AnswerLaws.{loaded-small, loaded-open, loaded-count, loaded-put}
 use Rattle.report.specs.Lines.{loadedLine, writeLines, endLine}
 use Rattle.report.specs.declared.refusal.ReportAnswer.the-variants.{Written}
-use Rattle.packets.specs.Cursor.{rest}
+use Rattle.writes.specs.Cursor.{rest}
 use lib.ListN.{length}
 use native.Mathlib.Omega.{arith}
 use mathlib.Core.Path.{_≡_, refl, sym, ap, _∙_}

@@ -9,9 +9,9 @@ use Rattle.chip.specs.Flash.{erased}
 use Rattle.chip.specs.Kind.{spiOn}
 use Rattle.chip.proofs.Laws.{erased-length}
 use Rattle.updater.specs.Run.{byPhase}
-use Rattle.updater.specs.Orders.{filled, pageOf, orderOf, operationOf, lookedFor, differs}
-use Rattle.updater.specs.Answers.{comparison}
-use Rattle.updater.proofs.OrderLaws.{filled-length}
+use Rattle.comparison.specs.Comparison.{filled, differs, comparison}
+use Rattle.updater.specs.Orders.{pageOf, orderOf, operationOf, lookedFor}
+use Rattle.comparison.proofs.Laws.{filled-length}
 use Rattle.updater.proofs.CallLaws.{places-small, at-phase, looks-last, look-parts, page-length, page-part}
 use borrow.Author.Needs.{needs}
 use Rattle.updater.proofs.run.compare_look.Statement.{statement}

@@ -1,8 +1,8 @@
 -- `run::fits_image` meets its contract.
 use mathlib.Core.Path.{sym, _∙_}
 use borrow.Author.Tests.{lt-leb, le-leb, not-true, not-false}
-use Rattle.packets.specs.Packet.{ask}
-use Rattle.packets.specs.Answers.{imageLength}
+use Rattle.base.specs.Question.{ask}
+use Rattle.bootreader.specs.Answers.{imageLength}
 use Rattle.chip.proofs.Laws.{onLayout}
 use Rattle.updater.proofs.CallLaws.{fits-by}
 use borrow.Author.Needs.{needs}

@@ -1,7 +1,7 @@
 -- `run::outcome_allowed` meets its contract.
 use mathlib.Core.Path.{refl}
 use borrow.Author.Tests.{eq-eqb, ne-eqb, le-leb, lt-leb}
-use Rattle.packets.specs.Packet.{ask}
+use Rattle.base.specs.Question.{ask}
 use Rattle.updater.specs.Run.{outcomeAllowed}
 use Rattle.updater.proofs.run.outcome_allowed.Statement.{statement}
 use Rattle.updater.proofs.run.outcome_allowed.Tie as tie

@@ -1,7 +1,7 @@
 -- `run::reply_done` meets its contract.
 use mathlib.Core.Path.{refl, ap}
 use borrow.Author.Tests.{eq-eqb, ne-eqb}
-use Rattle.packets.specs.Packet.{ask}
+use Rattle.base.specs.Question.{ask}
 use Rattle.updater.specs.declared.run.ReplyAnswer.the-variants.{Next}
 use borrow.Author.Needs.{needs}
 use Rattle.updater.proofs.run.reply_done.Statement.{statement}

@@ -1,8 +1,8 @@
 -- `run::reply_running` meets its contract.
 use mathlib.Core.Path.{sym, ap, _∙_}
 use borrow.Author.Tests.{eq-eqb, ne-eqb}
-use Rattle.packets.specs.Packet.{ask}
-use Rattle.updater.specs.declared.run.Operation.the-variants.{Look}
+use Rattle.base.specs.Question.{ask}
+use Rattle.updater.specs.declared.orders.Operation.the-variants.{Look}
 use Rattle.updater.proofs.CallLaws.{fits-own, onOperation, replied-by}
 use borrow.Author.Needs.{needs}
 use Rattle.updater.proofs.run.reply_running.Statement.{statement}

@@ -1,7 +1,7 @@
 -- `run::stands_in_phase` meets its contract.
 use mathlib.Core.Path.{refl}
 use borrow.Author.Tests.{lt-ltb, le-ltb, eq-eqb, ne-eqb}
-use Rattle.packets.specs.Packet.{ask}
+use Rattle.base.specs.Question.{ask}
 use Rattle.updater.specs.Run.{stands}
 use borrow.Author.Needs.{needs}
 use Rattle.updater.proofs.run.stands_in_phase.Statement.{statement}

@@ -1,7 +1,7 @@
 -- `run::start` meets its contract.
 use mathlib.Core.Path.{refl, sym, _∙_}
 use Rattle.updater.proofs.CallLaws.{start-by}
-use Rattle.packets.proofs.Laws.{onAnswer}
+use Rattle.bootreader.proofs.Laws.{onAnswer}
 use Rattle.chip.proofs.Laws.{onLayout}
 use borrow.Author.Needs.{needs}
 use Rattle.updater.proofs.run.start.Statement.{statement}

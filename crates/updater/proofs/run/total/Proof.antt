@@ -2,9 +2,9 @@
 use mathlib.Core.Path.{sym, ap, _∙_}
 use native.Mathlib.Omega.{arith}
 use borrow.Author.Tests.{lt-leb, le-leb}
-use Rattle.packets.specs.Packet.{ask}
-use Rattle.packets.specs.Answers.{imageLength}
-use Rattle.packets.proofs.Laws.{length-allowed}
+use Rattle.base.specs.Question.{ask}
+use Rattle.bootreader.specs.Answers.{imageLength}
+use Rattle.bootreader.proofs.Laws.{length-allowed}
 use Rattle.chip.proofs.Laws.{onLayout, area-allowed, allowed-asks}
 use Rattle.updater.specs.declared.run.TotalAnswer.the-variants.{Total}
 use Rattle.updater.proofs.RunLaws.{total-is}

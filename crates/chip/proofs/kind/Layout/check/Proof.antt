@@ -1,7 +1,7 @@
 -- `Layout::check` meets its contract.
 use mathlib.Core.Path.{refl, sym, _∙_}
 use borrow.Author.Tests.{not-true, not-false}
-use Rattle.packets.specs.Packet.{ask}
+use Rattle.base.specs.Question.{ask}
 use Rattle.chip.specs.Layout.{askLayout}
 use Rattle.chip.specs.Answers.{layoutAnswer}
 use borrow.Author.Needs.{needs}

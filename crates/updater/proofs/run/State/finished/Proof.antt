@@ -1,7 +1,7 @@
 -- `State::finished` meets its contract.
 use mathlib.Core.Path.{refl, sym, _∙_}
 use borrow.Author.Tests.{not-true, not-false}
-use Rattle.packets.specs.Packet.{ask}
+use Rattle.base.specs.Question.{ask}
 use Rattle.updater.specs.Answers.{finishedAnswer}
 use borrow.Author.Needs.{needs}
 use Rattle.updater.proofs.run.State.finished.Statement.{statement}

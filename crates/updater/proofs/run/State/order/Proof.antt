@@ -1,7 +1,7 @@
 -- `State::order` meets its contract.
 use mathlib.Core.Path.{refl, sym, _∙_}
 use borrow.Author.Tests.{lt-ltb, le-ltb, not-true, not-false}
-use Rattle.packets.specs.Packet.{ask}
+use Rattle.base.specs.Question.{ask}
 use Rattle.updater.specs.Answers.{orderAnswer}
 use borrow.Author.Needs.{needs}
 use Rattle.updater.proofs.run.State.order.Statement.{statement}

@@ -1,0 +1,4 @@
+pub mod MixtureLaws
+pub mod ReachLaws
+pub mod BenchLaws
+pub mod Laws

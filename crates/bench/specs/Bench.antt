@@ -1,0 +1,79 @@
+-- The bench: a run on a chip's bytes, cut after k orders. Document 01, "Orders of one run" and question 10.
+use Prim.Native.Nat.{ℕ, zero, suc, min}
+use mathlib.Core.Bool.{Bool, true, false, _&&_}
+use mathlib.Core.List.{List, [], _∷_}
+use lib.Bits.{bitAnd, bitXor}
+use lib.Dec.{eqb, leb, ltb}
+use lib.ListN.{length, take, drop}
+use Rattle.base.specs.Question.{ask}
+use Rattle.chip.specs.Layout.{segment}
+use Rattle.chip.specs.Flash.{span}
+use Rattle.chip.specs.Kind.{Kind}
+use Rattle.chip.specs.Answers.{layoutOf}
+use Rattle.chip.specs.declared.kind.Layout.{Layout}
+use Rattle.updater.specs.Run.{total, first, after}
+use Rattle.updater.specs.Orders.{Order, erase, program, look, orders}
+use Rattle.bench.specs.Effects.{placeOf, obeyedSpan, leaves, obeyedAll}
+use Rattle.updater.specs.Answers.{askRun}
+use Rattle.updater.specs.declared.run.State.{State}
+use Rattle.bench.specs.declared.BenchAnswer.{BenchAnswer}
+use Rattle.bench.specs.declared.BenchAnswer.the-variants.{Reached, Refused}
+
+-- Each bit equals the old one or the ordered one: no bit of the new bytes differs from both.
+unfoldable pub mixture : List ℕ → List ℕ → List ℕ → Bool
+mixture (old ∷ olds) (ordered ∷ more) (new ∷ news) = eqb (bitAnd (bitXor new old) (bitXor new ordered)) 0 && mixture olds more news
+mixture (old ∷ olds) (ordered ∷ more) [] = true
+mixture (old ∷ olds) [] news = true
+mixture [] more news = true
+
+-- Question 10: are there damage bytes for the span, and in segment 0 does each bit equal the old one or the ordered one?
+unfoldable pub spanAllows : ℕ → List ℕ → List ℕ → List ℕ → Bool
+spanAllows place old ordered damage =
+    ask (leb (length ordered) (length damage)) false
+    (elim (ltb place segment) [ true ↦ mixture old ordered (take (length ordered) damage) | false ↦ true ])
+
+-- The same of an order and the chip before it. A look has no damage.
+abbrev pub damages : Order → List ℕ → List ℕ → Bool
+damages order chip damage = spanAllows (placeOf order) (span chip (placeOf order) (length (obeyedSpan order chip))) (obeyedSpan order chip) damage
+
+unfoldable pub damageAllowed : Order → List ℕ → List ℕ → Bool
+damageAllowed (erase place count) chip damage = damages (erase place count) chip damage
+damageAllowed (program place bytes) chip damage = damages (program place bytes) chip damage
+damageAllowed (look place bytes) chip damage = true
+
+-- The run is cut in the first of the orders left: its span then holds the first damage bytes. Where none is left the run has ended.
+unfoldable pub cutAllowed : List Order → List ℕ → List ℕ → Bool
+cutAllowed [] chip damage = true
+cutAllowed (order ∷ more) chip damage = damageAllowed order chip damage
+
+unfoldable pub cutIn : List Order → List ℕ → List ℕ → List ℕ
+cutIn [] chip damage = chip
+cutIn (order ∷ more) chip damage = leaves order chip (take (length (obeyedSpan order chip)) damage)
+
+-- The first k orders are obeyed in full. The chip that question 10 calls old is the one after them.
+abbrev pub chipAfter : Kind → Layout → List ℕ → ℕ → List ℕ → List ℕ
+chipAfter kind layout image k chip = obeyedAll (take k (orders kind layout image)) chip
+
+-- the state after so many orders
+unfoldable pub stateAfter : ℕ → State → State
+stateAfter zero state = state
+stateAfter (suc more) state = stateAfter more (after state)
+
+-- With k at or above the total the run ends.
+abbrev pub stateAt : Layout → List ℕ → ℕ → State
+stateAt layout image k = stateAfter (min k (total layout (length image))) (first layout (length image))
+
+-- `bench::cut_run`: questions 1 to 5, then 10; the run's state before order k + 1, and the chip as it then stands. F is the length of the chip's bytes.
+unfoldable pub benchAnswer : Kind → Layout → List ℕ → List ℕ → ℕ → List ℕ → BenchAnswer
+benchAnswer kind layout chip image k damage =
+    askRun kind Refused layout image
+    (ask (cutAllowed (drop k (orders kind layout image)) (chipAfter kind layout image k chip) damage) (Refused 13 0)
+    (Reached (stateAt layout image k)))
+
+-- A refusal leaves the chip as it was.
+unfoldable pub benchOutput : BenchAnswer → Kind → Layout → List ℕ → List ℕ → ℕ → List ℕ → List ℕ
+benchOutput (Reached state) kind layout chip image k damage = cutIn (drop k (orders kind layout image)) (chipAfter kind layout image k chip) damage
+benchOutput (Refused number place) kind layout chip image k damage = chip
+
+abbrev pub benchLayout : List ℕ → ℕ → ℕ → Layout
+benchLayout chip update area = layoutOf (length chip) update area

@@ -1,0 +1,56 @@
+-- What an order does to a chip's bytes. Document 01, "A chip's life".
+use Prim.Native.Nat.{ℕ, _+_, _-_, _/_, _<_, _≤_}
+use mathlib.Core.Path.{_≡_}
+use mathlib.Core.Logic.{_⊎_}
+use mathlib.Core.List.{List, [], _∷_}
+use lib.ListN.{length, getD}
+use Rattle.chip.specs.Layout.{page, segment}
+use Rattle.chip.specs.declared.kind.Layout.{Layout}
+use Rattle.chip.specs.Flash.{span, over, erased, afterProgram}
+use Rattle.updater.specs.Orders.{Order, erase, program, look}
+
+-- the first byte of an order's span
+unfoldable pub placeOf : Order → ℕ
+placeOf (erase place count) = place
+placeOf (program place bytes) = place
+placeOf (look place bytes) = place
+
+-- how many bytes an order's span has
+unfoldable pub spanOf : Order → ℕ
+spanOf (erase place count) = count
+spanOf (program place bytes) = length bytes
+spanOf (look place bytes) = length bytes
+
+-- A span lies in segment 0 or in the update area.
+abbrev pub InReach : Layout → ℕ → ℕ → Type 0
+InReach layout place count = (place + count ≤ segment) ⊎ ((layout .update ≤ place) × (place + count ≤ layout .update + layout .area))
+
+-- A program has a byte at least and stays inside one page.
+unfoldable pub OnePage : Order → Type 0
+OnePage (erase place count) = Unit {0}
+OnePage (program place bytes) = (1 ≤ length bytes) × ((place + length bytes - 1) / page ≡ place / page)
+OnePage (look place bytes) = Unit {0}
+
+-- A chip obeys when an erase sets its span to FF and a program clears exactly the bits that are 0 in its bytes: what then stands in the span. A look changes nothing.
+unfoldable pub obeyedSpan : Order → List ℕ → List ℕ
+obeyedSpan (erase place count) chip = erased count
+obeyedSpan (program place bytes) chip = afterProgram chip place bytes
+obeyedSpan (look place bytes) chip = span chip place (length bytes)
+
+-- The chip when these bytes stand in an order's span afterwards; outside it every byte stays. A look changes nothing.
+unfoldable pub leaves : Order → List ℕ → List ℕ → List ℕ
+leaves (erase place count) chip left = over chip place left
+leaves (program place bytes) chip left = over chip place left
+leaves (look place bytes) chip left = chip
+
+-- a chip that has obeyed an order, and one that has obeyed a list of them
+abbrev pub obeyed : Order → List ℕ → List ℕ
+obeyed order chip = leaves order chip (obeyedSpan order chip)
+
+unfoldable pub obeyedAll : List Order → List ℕ → List ℕ
+obeyedAll [] chip = chip
+obeyedAll (order ∷ orders) chip = obeyedAll orders (obeyed order chip)
+
+-- Bytes are below 256.
+abbrev pub Bytes : List ℕ → Type 0
+Bytes bytes = (i : ℕ) → i < length bytes → getD bytes i 0 < 256

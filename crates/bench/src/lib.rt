@@ -1,0 +1,205 @@
+// The bench: a run on the bytes of a chip, whose power is cut after so many orders. Bench is document
+// 01's term.
+ghost use Prim.Native.Nat.{_<_, min};
+ghost use mathlib.Core.Path.{_≡_};
+ghost use mathlib.Core.Bool.{true};
+ghost use lib.ListN.{length, drop};
+ghost use Rattle.base.specs.Question.{ask};
+ghost use Rattle.chip.specs.Layout.{segment};
+ghost use Rattle.chip.specs.Flash.{erased};
+ghost use Rattle.chip.specs.Kind.{spi};
+ghost use Rattle.updater.specs.Run.{total, position, first, running, fits};
+ghost use Rattle.updater.specs.Orders.{orders, currentOrder};
+ghost use Rattle.bench.specs.Effects.{obeyed};
+ghost use Rattle.bench.specs.Bench.{mixture, spanAllows, cutAllowed, cutIn, chipAfter, stateAfter, stateAt, benchAnswer, benchOutput, benchLayout};
+ghost use Rattle.bench.specs.declared.BenchAnswer.the-variants.{Reached, Refused};
+use updater::orders::Operation;
+use updater::run::StartAnswer;
+use updater::run::State;
+use updater::orders::after_order;
+use updater::orders::current_bytes;
+use updater::orders::current_operation;
+use updater::run::start;
+use chip::flash::erase;
+use chip::flash::program;
+use chip::flash::write;
+use chip::kind::Spi;
+
+// The run's state before the cut order, or at its end; or a refusal that left the chip as it was.
+pub enum BenchAnswer {
+    Reached { state: State },
+    Refused { number: u32, place: usize },
+}
+
+// Whether each bit of the new bytes is 1 or that of the others.
+fn mixes_with_erased(others: &[u8], new: &[u8]) -> bool
+    requires { ⌜ length (now others) ≡ length (now new) ⌝ }
+    ensures { λ r. ⌜ r ≡ mixture (now (others .entry)) (erased (length (now (others .entry)))) (now (new .entry)) ⌝ }
+{
+    let mut i = 0;
+    while i < others.len() {
+        if (new[i] ^ others[i]) & (new[i] ^ 0xFF) != 0 {
+            return false;
+        }
+        i += 1;
+    }
+    true
+}
+
+// Question 10 for an erase or program of so many bytes. In segment 0 either what is ordered (the erase)
+// or what stands there before (the program of ON) is FF; the others are the bytes that need not be.
+fn span_allowed(place: usize, count: usize, others: &[u8], damage: &[u8]) -> bool
+    requires { ⌜ (place < segment → length (now others) ≡ count) ⌝ }
+    ensures { λ r. ⌜ r ≡ spanAllows place (now (others .entry)) (erased count) (now (damage .entry)) ⌝ }
+{
+    if damage.len() < count {
+        return false;
+    }
+    if place >= Spi::SEGMENT {
+        return true;
+    }
+    mixes_with_erased(others, &damage[..count])
+}
+
+// Question 10 for the current order, before anything is written: the chip is the one before the run.
+// Only the erase of segment 0 finds it as it was.
+fn damage_allowed(chip: &[u8], state: State, image: &[u8], damage: &[u8]) -> bool
+    requires { ⌜ (fits state (length (now image)) ≡ true) × (state .layout .length ≡ length (now chip)) ⌝ }
+    ensures { λ r. ⌜ r ≡ cutAllowed (drop (position state) (orders spi (state .layout) (now (image .entry)))) (chipAfter spi (state .layout) (now (image .entry)) (position state) (now (chip .entry))) (now (damage .entry)) ⌝ }
+{
+    if state.phase >= 7 {
+        return true;
+    }
+    let on = Spi::ON;
+    let operation = current_operation(state, image);
+    match operation {
+        Operation::Erase { place, length } => span_allowed(
+            place,
+            length,
+            &chip[place..place + length],
+            damage,
+        ),
+        Operation::Program { place, length } => span_allowed(place, length, &on, damage),
+        Operation::Look {
+            place: _,
+            length: _,
+        } => true,
+    }
+}
+
+// The state after so many orders, or at the run's end.
+fn state_after(begun: State, cut: usize) -> State
+    requires { ⌜ (begun ≡ first (begun .layout) (begun .length)) × (fits begun (begun .length) ≡ true) ⌝ }
+    ensures { λ r. ⌜ r ≡ stateAfter (min cut (total (begun .layout) (begun .length))) begun ⌝ }
+{
+    let mut state = begun;
+    let mut i = 0;
+    while i < cut {
+        if state.phase >= 7 {
+            return state;
+        }
+        state = after_order(state);
+        i += 1;
+    }
+    state
+}
+
+// The chip obeys the current order.
+fn obey_order(chip: &mut [u8], state: State, image: &[u8])
+    requires { ⌜ (fits state (length (now image)) ≡ true) × (running state ≡ true) × (state .layout .length ≡ length (now chip)) ⌝ }
+    ensures { λ r. ⌜ now (chip .exit) ≡ obeyed (currentOrder spi state (now (image .entry))) (now (chip .entry)) ⌝ }
+{
+    let operation = current_operation(state, image);
+    match operation {
+        Operation::Erase { place, length } => {
+            erase(chip, place, length);
+        }
+        Operation::Program { place, length } => {
+            let bytes = current_bytes(state, image);
+            program(chip, place, &bytes[..length]);
+        }
+        Operation::Look {
+            place: _,
+            length: _,
+        } => {}
+    }
+}
+
+// The chip obeys so many orders, or all of the run.
+fn obey_orders(chip: &mut [u8], begun: State, image: &[u8], cut: usize)
+    requires { ⌜ (begun ≡ first (begun .layout) (length (now image))) × (fits begun (length (now image)) ≡ true) × (begun .layout .length ≡ length (now chip)) ⌝ }
+    ensures { λ r. ⌜ now (chip .exit) ≡ chipAfter spi (begun .layout) (now (image .entry)) cut (now (chip .entry)) ⌝ }
+{
+    let mut state = begun;
+    let mut i = 0;
+    while i < cut {
+        if state.phase >= 7 {
+            return;
+        }
+        obey_order(chip, state, image);
+        state = after_order(state);
+        i += 1;
+    }
+}
+
+// What the cut order leaves.
+fn write_damage(chip: &mut [u8], state: State, image: &[u8], damage: &[u8])
+    requires { ⌜ (fits state (length (now image)) ≡ true) × (state .layout .length ≡ length (now chip)) × (cutAllowed (drop (position state) (orders spi (state .layout) (now image))) (now chip) (now damage) ≡ true) ⌝ }
+    ensures { λ r. ⌜ now (chip .exit) ≡ cutIn (drop (position state) (orders spi (state .layout) (now (image .entry)))) (now (chip .entry)) (now (damage .entry)) ⌝ }
+{
+    if state.phase >= 7 {
+        return;
+    }
+    let operation = current_operation(state, image);
+    match operation {
+        Operation::Erase { place, length } => {
+            write(chip, place, &damage[..length]);
+        }
+        Operation::Program { place, length } => {
+            write(chip, place, &damage[..length]);
+        }
+        Operation::Look {
+            place: _,
+            length: _,
+        } => {}
+    }
+}
+
+// Question 10, and the cut, for a run that is started.
+fn cut_begun(chip: &mut [u8], begun: State, image: &[u8], cut: usize, damage: &[u8]) -> BenchAnswer
+    requires { ⌜ (begun ≡ first (begun .layout) (length (now image))) × (fits begun (length (now image)) ≡ true) × (begun .layout .length ≡ length (now chip)) ⌝ }
+    ensures answer { λ r. ⌜ r ≡ ask (cutAllowed (drop cut (orders spi (begun .layout) (now (image .entry)))) (chipAfter spi (begun .layout) (now (image .entry)) cut (now (chip .entry))) (now (damage .entry))) (Refused 13 0) (Reached (stateAt (begun .layout) (now (image .entry)) cut)) ⌝ }
+    ensures output { λ r. ⌜ now (chip .exit) ≡ benchOutput r spi (begun .layout) (now (chip .entry)) (now (image .entry)) cut (now (damage .entry)) ⌝ }
+{
+    let reached = state_after(begun, cut);
+    if !damage_allowed(chip, reached, image, damage) {
+        return BenchAnswer::Refused {
+            number: 13,
+            place: 0,
+        };
+    }
+    obey_orders(chip, begun, image, cut);
+    write_damage(chip, reached, image, damage);
+    BenchAnswer::Reached { state: reached }
+}
+
+// Runs an update on a chip and cuts the power in the order after so many: those are obeyed in full, and
+// the first damage bytes stand in the span of the next. A cut at or above the total lets the run end.
+pub fn cut_run(
+    chip: &mut [u8],
+    update: usize,
+    area: usize,
+    image: &[u8],
+    cut: usize,
+    damage: &[u8],
+) -> BenchAnswer
+    ensures answer { λ r. ⌜ r ≡ benchAnswer spi (benchLayout (now (chip .entry)) update area) (now (chip .entry)) (now (image .entry)) cut (now (damage .entry)) ⌝ }
+    ensures output { λ r. ⌜ now (chip .exit) ≡ benchOutput (benchAnswer spi (benchLayout (now (chip .entry)) update area) (now (chip .entry)) (now (image .entry)) cut (now (damage .entry))) spi (benchLayout (now (chip .entry)) update area) (now (chip .entry)) (now (image .entry)) cut (now (damage .entry)) ⌝ }
+{
+    let layout = Spi::layout(chip.len(), update, area);
+    let started = start(layout, image);
+    match started {
+        StartAnswer::Started { state } => cut_begun(chip, state, image, cut, damage),
+        StartAnswer::Refused { number, place } => BenchAnswer::Refused { number, place },
+    }
+}

@@ -1,0 +1,4 @@
+pub mod ReadingLaws
+pub mod AnswerLaws
+pub mod PlacementLaws
+pub mod Laws

@@ -1,0 +1,177 @@
+-- Locality and placement: a reading depends only on the bytes that it looked at, wherever they stand.
+use Prim.Native.Nat.{ℕ, suc, _+_, _-_, _*_, _<_, _≤_}
+use mathlib.Core.Path.{_≡_, refl, sym, ap, _∙_}
+use mathlib.Core.Bool.{Bool, true, false}
+use mathlib.Core.Option.{Option, some, none}
+use mathlib.Core.List.{List, [], _∷_, map}
+use native.Mathlib.Nat.{add-zero, add-assoc}
+use native.Mathlib.Omega.{arith}
+use lib.ListN.{length, getD, drop}
+use Rattle.framing.specs.Search.{syncBytes, starts, find}
+use Rattle.framing.specs.Words.{words}
+use Rattle.packets.specs.Header.{headOf, effectOf}
+use Rattle.packets.specs.Trace.{other, Mode, header, payload, modeOf, afterHeader, Trace, trace, lastWbstar, finish, listOf, finishFrom, writesFrom}
+use Rattle.framing.specs.declared.search.Found.the-variants.{At}
+use Rattle.packets.specs.declared.header.Effect.{Effect}
+use Rattle.packets.specs.declared.header.Effect.the-variants.{GoesOn, Desync, Iprog as Jumps}
+use Rattle.packets.specs.declared.trace.Finish.{Finish}
+use Rattle.packets.specs.declared.trace.Finish.the-variants.{Ended, Iprog, Fault, Short}
+use Rattle.packets.specs.declared.trace.Write.{Write}
+use Rattle.base.proofs.Laws.{false-of}
+use Rattle.framing.proofs.Laws.{starts-at, starts-all, find-here, find-next, find-within, word-of, word-after, room}
+use Rattle.packets.proofs.Laws.{trace-none, trace-header, trace-fault, trace-data, trace-desync, trace-iprog}
+
+-- The search: where the same bytes stand, the sync word is found at the same distance.
+pub find-moved : (xs ys : List ℕ) (p q i : ℕ) → find xs p ≡ At (p + i) → i + 4 ≤ length ys → ((j : ℕ) → j < i + 4 → getD ys j 0 ≡ getD xs j 0) → find ys q ≡ At (q + i)
+unfolding find
+find-moved [] ys p q i e l h = let z : _≡_ {A = ℕ} 0 1 = cc in absurd (omega arith)
+find-moved (x ∷ xs) [] p q i e l h = absurd (omega arith)
+find-moved (x ∷ xs) (y ∷ ys) p q i e l h = go (starts syncBytes (x ∷ xs)) refl (λ i. find-moved xs ys (p + 1) (q + 1) i)
+  where
+    whole : i + 4 ≤ length (x ∷ xs)
+    whole = let w : (p ≤ p + i) × (p + i + 4 ≤ p + length (x ∷ xs)) = find-within (x ∷ xs) p (p + i) e in omega arith
+
+    go : (b : Bool) → starts syncBytes (x ∷ xs) ≡ b →
+        ((i : ℕ) → find xs (p + 1) ≡ At (p + 1 + i) → i + 4 ≤ length ys → ((j : ℕ) → j < i + 4 → getD ys j 0 ≡ getD xs j 0) → find ys (q + 1) ≡ At (q + 1 + i)) →
+        find (y ∷ ys) q ≡ At (q + i)
+    go true t ih =
+        let r : At p ≡ At (p + i) = sym (find-here (x ∷ xs) p t) ∙ e in
+        let k : p ≡ p + i = cc in
+        let n : q ≡ q + i = omega arith in
+        find-here (y ∷ ys) q (starts-all syncBytes (y ∷ ys) (omega arith) (λ j b. h j (omega arith) ∙ starts-at syncBytes (x ∷ xs) t j b)) ∙ ap At n
+    go false f ih =
+        let r : find xs (p + 1) ≡ At (p + i) = sym (find-next xs p x f) ∙ e in
+        let w : (p + 1 ≤ p + i) × (p + i + 4 ≤ p + 1 + length xs) = find-within xs (p + 1) (p + i) r in
+        let a : p + i ≡ p + 1 + (i - 1) = omega arith in
+        let b : q + 1 + (i - 1) ≡ q + i = omega arith in
+        let other : starts syncBytes (y ∷ ys) ≡ false =
+        false-of (starts syncBytes (y ∷ ys)) (λ t. let z : _≡_ {A = ℕ} 0 1 = no-both t f in omega arith) in
+        find-next ys q y other
+        ∙ ih (i - 1) (r ∙ ap At a) (omega arith) (λ j k. h (suc j) (omega arith))
+        ∙ ap At b
+      where
+        no-both : starts syncBytes (y ∷ ys) ≡ true → starts syncBytes (x ∷ xs) ≡ false → _≡_ {A = ℕ} 0 1
+        no-both t f =
+            let u : starts syncBytes (x ∷ xs) ≡ true = starts-all syncBytes (x ∷ xs) (omega (arith, whole)) (λ j b. sym (h j (omega arith)) ∙ starts-at syncBytes (y ∷ ys) t j b) in cc
+
+-- The place after the last word that a reading of packets looked at.
+unfoldable pub lookedTo : Finish → ℕ
+lookedTo (Ended end writes) = end
+lookedTo (Iprog place to) = place + 4
+lookedTo (Fault place) = place + 4
+lookedTo Short = 0
+
+-- The same end and the same writes, d further on.
+unfoldable pub movedFinish : ℕ → Finish → Finish
+movedFinish d (Ended end writes) = Ended (d + end) writes
+movedFinish d (Iprog place to) = Iprog (d + place) to
+movedFinish d (Fault place) = Fault (d + place)
+movedFinish d Short = Short
+
+abbrev pub movedWrite : ℕ → Write → Write
+movedWrite d w = record { register = w .register; word = w .word; place = d + w .place }
+
+-- A reading that does not run out of words looks at one at least, and only at those there are.
+looked : (ws : List ℕ) (p : ℕ) (m : Mode) (n wbstar : ℕ) (f : Finish) → finish (trace ws p m) n wbstar ≡ f → (f ≡ Short → ⊥) →
+    (p + 4 ≤ lookedTo f) × (lookedTo f ≤ p + 4 * length ws)
+unfolding trace finish lookedTo
+looked [] p m n wbstar f e h = absurd (h (sym e))
+looked (x ∷ ws) p (header before) n wbstar f e h = go (afterHeader (headOf x) before) refl (λ m q. looked ws (p + 4) m n wbstar f q h)
+  where
+    go : (o : Option Mode) → afterHeader (headOf x) before ≡ o →
+        ((m : Mode) → finish (trace ws (p + 4) m) n wbstar ≡ f → (p + 4 + 4 ≤ lookedTo f) × (lookedTo f ≤ p + 4 + 4 * length ws)) →
+        (p + 4 ≤ lookedTo f) × (lookedTo f ≤ p + 4 * suc (length ws))
+    go none a ih = let k : p + 4 ≡ lookedTo f = ap lookedTo (rw (trace-fault x ws p before a) at e) in omega arith
+    go (some m) a ih = let w = ih m (rw (trace-header x ws p before m a) at e) in omega arith
+looked (x ∷ ws) p (payload register left) n wbstar f e h =
+    go (effectOf register x) refl (λ q. looked ws (p + 4) (modeOf left register other) (n + 1) (lastWbstar (record { register = register; word = x; place = p }) wbstar) f q h)
+  where
+    go : (o : Effect) → effectOf register x ≡ o →
+        (finish (trace ws (p + 4) (modeOf left register other)) (n + 1) (lastWbstar (record { register = register; word = x; place = p }) wbstar) ≡ f → (p + 4 + 4 ≤ lookedTo f) × (lookedTo f ≤ p + 4 + 4 * length ws)) →
+        (p + 4 ≤ lookedTo f) × (lookedTo f ≤ p + 4 * suc (length ws))
+    go GoesOn a ih = let w = ih (rw (trace-data x ws p register left a) at e) in omega arith
+    go Desync a ih = let k : p + 4 ≡ lookedTo f = ap lookedTo (rw (trace-desync x ws p register left a) at e) in omega arith
+    go Jumps a ih = let k : p + 4 ≡ lookedTo f = ap lookedTo (rw (trace-iprog x ws p register left a) at e) in omega arith
+
+-- The packets: where the same words stand, the reading ends the same and has the same writes, d further on.
+trace-moved : (ws vs : List ℕ) (d p : ℕ) (m : Mode) (n wbstar : ℕ) (f : Finish) → finish (trace ws p m) n wbstar ≡ f → (f ≡ Short → ⊥) →
+    ((i : ℕ) → p + 4 * i + 4 ≤ lookedTo f → (i < length vs) × (getD vs i 0 ≡ getD ws i 0)) →
+    (finish (trace vs (d + p) m) n wbstar ≡ movedFinish d f) × (listOf (trace vs (d + p) m) ≡ map (movedWrite d) (listOf (trace ws p m)))
+unfolding finish listOf movedFinish
+trace-moved [] vs d p m n wbstar f e h same = absurd (h (sym (rw (trace-none p m) at e)))
+trace-moved (x ∷ ws) [] d p m n wbstar f e h same =
+    let l = looked (x ∷ ws) p m n wbstar f e h in
+    let w : (0 < 0) × (0 ≡ x) = same 0 (omega arith) in absurd (omega arith)
+trace-moved (x ∷ ws) (y ∷ vs) d p (header before) n wbstar f e h same =
+    rw (first) (go (afterHeader (headOf x) before) refl (λ m. trace-moved ws vs d (p + 4) m n wbstar f))
+  where
+    first : y ≡ x
+    first = let l = looked (x ∷ ws) p (header before) n wbstar f e h in same 0 (omega arith) .1
+
+    Goal : Trace → Trace → Type 0
+    Goal moved here = (finish moved n wbstar ≡ movedFinish d f) × (listOf moved ≡ map (movedWrite d) (listOf here))
+
+    go : (o : Option Mode) → afterHeader (headOf x) before ≡ o →
+        ((m : Mode) → finish (trace ws (p + 4) m) n wbstar ≡ f → (f ≡ Short → ⊥) →
+        ((i : ℕ) → p + 4 + 4 * i + 4 ≤ lookedTo f → (i < length vs) × (getD vs i 0 ≡ getD ws i 0)) →
+        Goal (trace vs (d + (p + 4)) m) (trace ws (p + 4) m)) →
+        Goal (trace (x ∷ vs) (d + p) (header before)) (trace (x ∷ ws) p (header before))
+    go none a ih =
+        rw (trace-fault x vs (d + p) before a, trace-fault x ws p before a)
+        (ap (movedFinish d) (rw (trace-fault x ws p before a) at e), refl)
+    go (some m) a ih =
+        rw (trace-header x vs (d + p) before m a, trace-header x ws p before m a, add-assoc d p 4)
+        (ih m (rw (trace-header x ws p before m a) at e) h (λ i l. let w = same (suc i) (omega arith) in (omega arith, w .1)))
+trace-moved (x ∷ ws) (y ∷ vs) d p (payload register left) n wbstar f e h same =
+    rw (first) (go (effectOf register x) refl (trace-moved ws vs d (p + 4) (modeOf left register other) (n + 1) (lastWbstar (record { register = register; word = x; place = p }) wbstar) f))
+  where
+    first : y ≡ x
+    first = let l = looked (x ∷ ws) p (payload register left) n wbstar f e h in same 0 (omega arith) .1
+
+    Goal : Trace → Trace → ℕ → ℕ → Type 0
+    Goal moved here n wbstar = (finish moved n wbstar ≡ movedFinish d f) × (listOf moved ≡ map (movedWrite d) (listOf here))
+
+    go : (o : Effect) → effectOf register x ≡ o →
+        (finish (trace ws (p + 4) (modeOf left register other)) (n + 1) (lastWbstar (record { register = register; word = x; place = p }) wbstar) ≡ f → (f ≡ Short → ⊥) →
+        ((i : ℕ) → p + 4 + 4 * i + 4 ≤ lookedTo f → (i < length vs) × (getD vs i 0 ≡ getD ws i 0)) →
+        Goal (trace vs (d + (p + 4)) (modeOf left register other)) (trace ws (p + 4) (modeOf left register other)) (n + 1) (lastWbstar (record { register = register; word = x; place = p }) wbstar)) →
+        Goal (trace (x ∷ vs) (d + p) (payload register left)) (trace (x ∷ ws) p (payload register left)) n wbstar
+    go GoesOn a ih =
+        let r = ih (rw (trace-data x ws p register left a) at e) h (λ i l. let w = same (suc i) (omega arith) in (omega arith, w .1)) in
+        rw (trace-data x vs (d + p) register left a, trace-data x ws p register left a, add-assoc d p 4)
+        (r .0, ap (λ (l : List Write). movedWrite d (record { register = register; word = x; place = p }) ∷ l) (r .1))
+    go Desync a ih =
+        rw (trace-desync x vs (d + p) register left a, trace-desync x ws p register left a, add-assoc d p 4)
+        (ap (movedFinish d) (rw (trace-desync x ws p register left a) at e), refl)
+    go Jumps a ih =
+        rw (trace-iprog x vs (d + p) register left a, trace-iprog x ws p register left a)
+        (ap (movedFinish d) (rw (trace-iprog x ws p register left a) at e), refl)
+
+-- The same of bytes: t has, d further on, the bytes of s that a reading of packets looked at.
+pub finish-moved : (s t : List ℕ) (d from : ℕ) (f : Finish) → finishFrom s from ≡ f → (f ≡ Short → ⊥) → d + lookedTo f ≤ length t →
+    ((i : ℕ) → from ≤ i → i < lookedTo f → getD t (d + i) 0 ≡ getD s i 0) →
+    (finishFrom t (d + from) ≡ movedFinish d f) × (writesFrom t (d + from) ≡ map (movedWrite d) (writesFrom s from))
+finish-moved s t d from f e h l same = trace-moved (words (drop from s)) (words (drop (d + from) t)) d from (header other) 0 0 f e h words-same
+  where
+    within : (from + 4 ≤ lookedTo f) × (lookedTo f ≤ from + 4 * length (words (drop from s)))
+    within = looked (words (drop from s)) from (header other) 0 0 f e h
+
+    byte : (i k : ℕ) → from + 4 * i + 4 ≤ lookedTo f → k < 4 → getD t (d + from + 4 * i + k) 0 ≡ getD s (from + 4 * i + k) 0
+    byte i k b c = let q : d + from + 4 * i + k ≡ d + (from + 4 * i + k) = omega arith in rw q (same (from + 4 * i + k) (omega arith) (omega arith))
+
+    words-same : (i : ℕ) → from + 4 * i + 4 ≤ lookedTo f → (i < length (words (drop (d + from) t))) × (getD (words (drop (d + from) t)) i 0 ≡ getD (words (drop from s)) i 0)
+    words-same i b = (
+      let r = room t (d + from) in omega arith,
+      word-after t (d + from) i
+          ∙ word-of t (d + from + 4 * i) (omega arith)
+          ∙ rw (sym (ap (λ (n : ℕ). getD t n 0) (add-zero (d + from + 4 * i))) ∙ byte i 0 b (omega arith) ∙ ap (λ (n : ℕ). getD s n 0) (add-zero (from + 4 * i)), byte i 1 b (omega arith), byte i 2 b (omega arith), byte i 3 b (omega arith))
+          (sym (word-after s from i ∙ word-of s (from + 4 * i) (let r = room s from in omega (arith, within)))),
+    )
+
+-- packets that end take one word at least, and only what there is
+pub ended-after : (s : List ℕ) (from end writes : ℕ) → finishFrom s from ≡ Ended end writes → (from + 4 ≤ end) × (end ≤ length s)
+unfolding lookedTo
+ended-after s from end writes e =
+    let l : (from + 4 ≤ end) × (end ≤ from + 4 * length (words (drop from s))) =
+    looked (words (drop from s)) from (header other) 0 0 (Ended end writes) e (λ q. let z : _≡_ {A = ℕ} 0 1 = cc in omega arith) in
+    let r = room s from in omega arith

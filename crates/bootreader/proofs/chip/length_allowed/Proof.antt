@@ -1,0 +1,21 @@
+-- `chip::length_allowed` meets its contract.
+use borrow.Author.Tests.{le-leb, lt-leb}
+use Rattle.base.specs.Question.{ask}
+use Rattle.bootreader.specs.Answers.{lengthAllowed}
+use Rattle.bootreader.proofs.chip.length_allowed.Statement.{statement}
+use Rattle.bootreader.proofs.chip.length_allowed.Tie as tie
+
+returns : tie.Need-returns
+unfolding lengthAllowed ask
+returns c = simp (lt-leb _ _ (c .if1 .taken))
+
+returns-2 : tie.Need-returns-2
+unfolding lengthAllowed ask
+returns-2 c = simp (le-leb _ _ (c .before .if1 .left), lt-leb _ _ (c .if2 .taken))
+
+returns-3 : tie.Need-returns-3
+unfolding lengthAllowed ask
+returns-3 c = simp (le-leb _ _ (c .before .if1 .left), le-leb _ _ (c .if2 .left))
+
+pub length-allowed-spec : {M : Type 1} → statement M
+length-allowed-spec = tie.close (tie.spec returns returns-2 returns-3)

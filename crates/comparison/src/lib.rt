@@ -1,0 +1,104 @@
+// Bytes that were read, compared with those that must stand there: some, and then FF. For the crates above it
+// alone: its functions ask their caller for no more bytes than a page has.
+ghost use Prim.Native.Nat.{_≤_};
+ghost use mathlib.Core.Path.{_≡_};
+ghost use mathlib.Core.Bool.{true};
+ghost use lib.ListN.{length};
+ghost use Rattle.chip.specs.Layout.{page};
+ghost use Rattle.chip.specs.Flash.{erased};
+ghost use Rattle.comparison.specs.Comparison.{filled, differs, comparison};
+
+// What comparing came to: all bytes agree, or the first address at which they do not.
+pub enum Comparison {
+    Same,
+    Differs { address: usize },
+}
+
+// Bytes, then FF to the end of a page.
+pub fn filled_page(bytes: &[u8]) -> [u8; 256]
+    requires { ⌜ length (now bytes) ≤ 256 ⌝ }
+    ensures { λ r. ⌜ r ≡ filled page (now (bytes .entry)) ⌝ }
+{
+    let mut filling = [0xFF; 256];
+    let mut i = 0;
+    while i < bytes.len() {
+        filling[i] = bytes[i];
+        i += 1;
+    }
+    filling
+}
+
+// Whether bytes are the same as others, as many. It never leaves early, so that the compiler compares
+// many at a time.
+fn same(bytes: &[u8], others: &[u8]) -> bool
+    requires { ⌜ length (now bytes) ≡ length (now others) ⌝ }
+    ensures { λ r. ⌜ (r ≡ true → now (bytes .entry) ≡ now (others .entry)) ⌝ }
+{
+    let mut all = true;
+    let mut i = 0;
+    while i < bytes.len() {
+        if bytes[i] != others[i] {
+            all = false;
+        }
+        i += 1;
+    }
+    all
+}
+
+// Whether bytes are all FF. It never leaves early either.
+fn all_erased(bytes: &[u8]) -> bool
+    ensures { λ r. ⌜ (r ≡ true → now (bytes .entry) ≡ erased (length (now (bytes .entry)))) ⌝ }
+{
+    let mut all = true;
+    let mut i = 0;
+    while i < bytes.len() {
+        if bytes[i] != 0xFF {
+            all = false;
+        }
+        i += 1;
+    }
+    all
+}
+
+// Whether bytes are those that must stand there: `must`, then FF.
+fn agree(bytes: &[u8], must: &[u8]) -> bool
+    requires { ⌜ length (now must) ≤ length (now bytes) ⌝ }
+    ensures { λ r. ⌜ (r ≡ true → now (bytes .entry) ≡ filled (length (now (bytes .entry))) (now (must .entry))) ⌝ }
+{
+    let count = must.len();
+    if !same(&bytes[0..count], must) {
+        return false;
+    }
+    all_erased(&bytes[count..])
+}
+
+// The first address, from a place on, at which bytes are not those that must stand there.
+fn first_difference(place: usize, bytes: &[u8], must: &[u8]) -> Comparison
+    requires { ⌜ (place ≤ 16777216) × (length (now must) ≤ length (now bytes)) × (length (now bytes) ≤ 256) ⌝ }
+    ensures { λ r. ⌜ r ≡ comparison (differs place (now (bytes .entry)) (filled (length (now (bytes .entry))) (now (must .entry)))) ⌝ }
+{
+    let mut i = 0;
+    while i < bytes.len() {
+        let mut standing = 0xFF;
+        if i < must.len() {
+            standing = must[i];
+        }
+        if bytes[i] != standing {
+            return Comparison::Differs { address: place + i };
+        }
+        i += 1;
+    }
+    Comparison::Same
+}
+
+// Compares bytes from a place on with those that must stand there: `must`, then FF. Nearly every look
+// agrees, so the slower search for an address waits until one does not.
+pub fn compare(place: usize, bytes: &[u8], must: &[u8]) -> Comparison
+    requires { ⌜ (place ≤ 16777216) × (length (now must) ≤ length (now bytes)) × (length (now bytes) ≤ 256) ⌝ }
+    ensures { λ r. ⌜ r ≡ comparison (differs place (now (bytes .entry)) (filled (length (now (bytes .entry))) (now (must .entry)))) ⌝ }
+{
+    if agree(bytes, must) {
+        return Comparison::Same;
+    }
+    first_difference(place, bytes, must)
+}

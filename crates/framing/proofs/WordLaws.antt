@@ -1,0 +1,67 @@
+-- Words by their place in the bytes.
+use Prim.Native.Nat.{ℕ, zero, suc, _+_, _-_, _*_, _/_, _<_, _≤_}
+use mathlib.Core.Path.{_≡_, refl, sym, ap, _∙_}
+use mathlib.Core.List.{List, [], _∷_}
+use native.Mathlib.Nat.{add-zero}
+use native.Mathlib.Omega.{arith}
+use lib.ListN.{length, getD, drop, length-drop}
+use lib.Seq.{drop-cons, getD-drop, drop-drop}
+use Rattle.framing.specs.Words.{words}
+
+pub length-words : (xs : List ℕ) → length (words xs) ≡ length xs / 4
+unfolding words
+length-words [] = refl
+length-words (a ∷ []) = refl
+length-words (a ∷ b ∷ []) = refl
+length-words (a ∷ b ∷ c ∷ []) = refl
+length-words (a ∷ b ∷ c ∷ d ∷ xs) = let h : length (words xs) ≡ length xs / 4 = length-words xs in omega arith
+
+four-more : (j : ℕ) → 4 * suc j ≡ suc (suc (suc (suc (4 * j))))
+four-more j = omega arith
+
+pub drop-words : (j : ℕ) (xs : List ℕ) → drop j (words xs) ≡ words (drop (4 * j) xs)
+unfolding words
+drop-words zero xs = refl
+drop-words (suc j) [] = rw four-more refl
+drop-words (suc j) (a ∷ []) = rw four-more refl
+drop-words (suc j) (a ∷ b ∷ []) = rw four-more refl
+drop-words (suc j) (a ∷ b ∷ c ∷ []) = rw four-more refl
+drop-words (suc j) (a ∷ b ∷ c ∷ d ∷ xs) = rw four-more (drop-words j xs)
+
+-- four bytes and the word they make
+pub word-of : (s : List ℕ) (at : ℕ) → at + 4 ≤ length s →
+    getD (words (drop at s)) 0 0 ≡ (getD s at 0 * 256 + getD s (at + 1) 0) * 65536 + (getD s (at + 2) 0 * 256 + getD s (at + 3) 0)
+unfolding words
+word-of s at h = first (drop at s) (simp length-drop (omega arith)) ∙ simp (getD-drop, add-zero)
+  where
+    first : (xs : List ℕ) → 4 ≤ length xs →
+        getD (words xs) 0 0 ≡ (getD xs 0 0 * 256 + getD xs 1 0) * 65536 + (getD xs 2 0 * 256 + getD xs 3 0)
+    first [] l = absurd (omega arith)
+    first (a ∷ []) l = absurd (omega arith)
+    first (a ∷ b ∷ []) l = absurd (omega arith)
+    first (a ∷ b ∷ c ∷ []) l = absurd (omega arith)
+    first (a ∷ b ∷ c ∷ d ∷ xs) l = refl
+
+-- the word after i more
+pub word-after : (s : List ℕ) (at i : ℕ) → getD (words (drop at s)) i 0 ≡ getD (words (drop (at + 4 * i) s)) 0 0
+word-after s at i =
+    sym (ap (λ (n : ℕ). getD (words (drop at s)) n 0) (add-zero i))
+    ∙ sym (getD-drop i (words (drop at s)) 0 0)
+    ∙ ap (λ (l : List ℕ). getD l 0 0) (drop-words i (drop at s) ∙ ap words (drop-drop (4 * i) at s))
+
+-- how many whole words there are from a place on
+pub room : (s : List ℕ) (at : ℕ) → length (words (drop at s)) ≡ (length s - at) / 4
+room s at = length-words (drop at s) ∙ ap (λ (n : ℕ). n / 4) (length-drop at s)
+
+-- the first word and the words after it
+pub words-cons : (s : List ℕ) (at : ℕ) → 0 < length (words (drop at s)) → words (drop at s) ≡ getD (words (drop at s)) 0 0 ∷ words (drop (at + 4) s)
+words-cons s at h =
+    drop-cons (words (drop at s)) 0 0 h
+    ∙ ap (λ (l : List ℕ). getD (words (drop at s)) 0 0 ∷ l) (drop-words 1 (drop at s) ∙ ap words (drop-drop 4 at s))
+
+pub nil-of-length : (xs : List ℕ) → length xs ≡ 0 → xs ≡ []
+nil-of-length [] h = refl
+nil-of-length (x ∷ xs) h = absurd (omega arith)
+
+pub words-on : (s : List ℕ) (at j : ℕ) → drop j (words (drop at s)) ≡ words (drop (at + 4 * j) s)
+words-on s at j = drop-words j (drop at s) ∙ ap words (drop-drop (4 * j) at s)

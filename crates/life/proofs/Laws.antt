@@ -1,0 +1,22 @@
+-- What crates above may count on of a chip's life: the demands, for any kind and for the SPI kind.
+use Rattle.chip.specs.Kind.{spi}
+use Rattle.chip.proofs.Laws.{spi-lawful}
+use Rattle.life.specs.OrderList.{Demand2}
+use Rattle.life.specs.BenchLife.{BenchLives}
+use Rattle.life.specs.Life.{Demand3}
+use Rattle.life.proofs.OrderListTheorem.{demand2}
+use Rattle.life.proofs.BenchLifeTheorem.{bench-lives}
+use Rattle.life.proofs.LifeTheorem.{demand3}
+pub use Rattle.life.proofs.BuiltTheorem.{built-demand3}
+
+-- The SPI kind keeps its laws, so its runs give their orders,
+pub spi-demand2 : Demand2 spi
+spi-demand2 = demand2 spi spi-lawful
+
+-- what its bench leaves is what a life leaves,
+pub spi-bench : BenchLives spi
+spi-bench = bench-lives spi spi-lawful
+
+-- and its chips live as demand 3 says, whoever built them.
+pub spi-demand3 : Demand3 spi
+spi-demand3 = demand3 spi spi-lawful

@@ -1,0 +1,12 @@
+pub mod ReplyLaws
+pub mod OrderListTheorem
+pub mod EventLaws
+pub mod LifeLaws
+pub mod ObeyLaws
+pub mod DamageLaws
+pub mod ProgressLaws
+pub mod UncutLaws
+pub mod BenchLifeTheorem
+pub mod LifeTheorem
+pub mod BuiltTheorem
+pub mod Laws

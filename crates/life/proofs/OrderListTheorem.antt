@@ -1,0 +1,42 @@
+-- DEMAND 2: a run gives exactly the orders of the list, in order.
+use Prim.Native.Nat.{ℕ, _+_, _-_, _*_, _/_, _<_, _≤_}
+use mathlib.Core.Path.{_≡_, refl, sym, ap, subst, _∙_}
+use mathlib.Core.Logic.{inl, inr}
+use mathlib.Core.List.{List}
+use native.Mathlib.Omega.{arith}
+use lib.ListN.{length, drop, length-take, length-drop}
+use Rattle.chip.specs.Layout.{page}
+use Rattle.chip.specs.Kind.{Kind, Lawful}
+use Rattle.chip.specs.declared.kind.Layout.{Layout}
+use Rattle.chip.proofs.Laws.{erased-length, update-allowed}
+use Rattle.updater.specs.Run.{byPhase, count, before, position}
+use Rattle.updater.specs.Orders.{Order, pageOf, orderOf}
+use Rattle.bench.specs.Effects.{placeOf, spanOf, InReach, OnePage}
+use Rattle.updater.specs.Answers.{read}
+use Rattle.bench.proofs.Laws.{in-reach}
+use Rattle.life.specs.OrderList.{Demand2}
+use Rattle.updater.proofs.Laws.{phases, Numbers, numbers-image, fits-says, running-says, area-segments, image-pages, area-pages, after-position, position-running, position-ended, orders-length, current-order}
+use Rattle.comparison.proofs.Laws.{filled-length}
+use Rattle.life.proofs.ReplyLaws.{moved, halted, halts, moves}
+
+module _ (kind : Kind) (lawful : Lawful kind) where
+  pub demand2 : Demand2 kind
+  unfolding before
+  demand2 = record {
+    whole = orders-length kind;
+    begins = λ layout n. refl;
+    ends = position-ended;
+    goes = position-running;
+    moves = λ state image said bytes next e.
+        let m = moved kind state image said bytes next e in
+        (m, ap position (m .comes) ∙ after-position state (length image) (m .fitted) (m .ran));
+    agrees = λ state image said bytes. moves kind state image said bytes;
+    halts = λ state image bytes place must. halts kind state image read bytes place must;
+    stops = λ state image said bytes. halted kind state image said bytes;
+    reach = λ state image e r.
+        let f = fits-says state (length image) e in
+        let s = running-says state (length image) e r in
+        let numbers : Numbers (state .layout) (length image) = subst (Numbers (state .layout)) (f .same) (f .numbers) in
+        subst (λ (o : Order). InReach (state .layout) (placeOf o) (spanOf o) × OnePage o) (sym (current-order kind state image e r))
+        (in-reach kind lawful (state .layout) image numbers (state .index) (state .phase) (s .0) (subst (λ (n : ℕ). state .index < count (state .layout) n (state .phase)) (f .same) (s .1)));
+  }

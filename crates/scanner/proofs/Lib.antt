@@ -1,0 +1,2 @@
+pub mod WalkLaws
+pub mod Laws

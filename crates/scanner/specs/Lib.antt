@@ -1,0 +1,2 @@
+-- How the code steps through packets. No promise of a public call rests on it.
+pub mod Walk

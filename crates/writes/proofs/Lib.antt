@@ -1,0 +1,2 @@
+pub mod CursorLaws
+pub mod Laws
