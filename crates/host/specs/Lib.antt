@@ -1,2 +1,2 @@
--- What each exported function gives a C host, for each case of the library's answer.
-pub mod Results
+-- What each exported function gives a C host.
+pub mod Calls

@@ -1,30 +1,13 @@
 // The first chip of a printer.
 ghost use mathlib.Core.Path.{_≡_};
 ghost use Rattle.chip.specs.Answers.{layoutOf};
-ghost use Rattle.host.specs.Results.{buildResult, buildOf, buildOutputOf};
+ghost use Rattle.host.specs.Calls.{buildOf, buildOutputOf};
 use crate::kind::SPI;
 use chip::builder;
 use chip::builder::BuildAnswer;
 use chip::kind::Spi;
-
-// A refusal's number and place, or 0 and 0.
-#[repr(C)]
-pub struct TealsettleBuild {
-    pub number: u32,
-    pub place: usize,
-}
-
-fn build_result(answer: BuildAnswer) -> TealsettleBuild
-    ensures { λ r. ⌜ r ≡ buildResult answer ⌝ }
-{
-    match answer {
-        BuildAnswer::Built => TealsettleBuild {
-            number: 0,
-            place: 0,
-        },
-        BuildAnswer::Refused { number, place } => TealsettleBuild { number, place },
-    }
-}
+use results::build::TealsettleBuild;
+use results::build::build_result;
 
 // Builds a chip at the front of a buffer. A refusal leaves the buffer as it was.
 #[no_mangle]

@@ -1,37 +1,11 @@
 // A run on the bytes of a chip, cut after so many orders.
 ghost use mathlib.Core.Path.{_≡_};
-ghost use Rattle.host.specs.Results.{benchResult, benchOf, benchOutputOf};
+ghost use Rattle.host.specs.Calls.{benchOf, benchOutputOf};
 use crate::kind::SPI;
-use crate::run::TealsettleState;
-use crate::run::no_state;
-use crate::run::state_result;
-use bench;
 use bench::BenchAnswer;
-
-// A refusal's number and place, or 0, 0 and the state before the cut order, or at the run's end.
-#[repr(C)]
-pub struct TealsettleBench {
-    pub number: u32,
-    pub place: usize,
-    pub state: TealsettleState,
-}
-
-fn bench_result(answer: BenchAnswer) -> TealsettleBench
-    ensures { λ r. ⌜ r ≡ benchResult answer ⌝ }
-{
-    match answer {
-        BenchAnswer::Reached { state } => TealsettleBench {
-            number: 0,
-            place: 0,
-            state: state_result(state),
-        },
-        BenchAnswer::Refused { number, place } => TealsettleBench {
-            number,
-            place,
-            state: no_state(),
-        },
-    }
-}
+use bench::cut_run;
+use results::cut::TealsettleBench;
+use results::cut::bench_result;
 
 // A run on a chip, whose first k orders are obeyed and whose next is cut. A refusal leaves the chip as it
 // was.
@@ -54,5 +28,5 @@ pub extern "C" fn tealsettle_cut_run(
             place: 0,
         });
     }
-    bench_result(bench::cut_run(chip, update, area, image, k, damage))
+    bench_result(cut_run(chip, update, area, image, k, damage))
 }

@@ -1,10 +1,10 @@
-// The functions that a printer's C host calls (include/tealsettle.h): numbers and byte slices in, a
-// plain struct out. A byte slice is a pointer and a length. Reading an image file (`text`), what a chip
-// or an image loads (`boot`), building a chip (`build`), updating one (`run`), and a run that is cut (`cut`).
+// The functions that a printer's C host calls (include/tealsettle.h): numbers and byte slices in, a plain struct
+// out (crate `results`). A byte slice is a pointer and a length. Reading an image file (`text`), what a chip or
+// an image loads (`boot`), building a chip (`build`), updating one (`run`), and a run that is cut (`cut`).
 
-pub mod cut;
 pub mod boot;
 pub mod build;
+pub mod cut;
 mod kind;
 pub mod run;
 pub mod text;

@@ -1,5 +1,5 @@
 -- `tealsettle_boot` meets its contract.
-use Rattle.host.specs.Results.{bootResult}
+use Rattle.results.specs.Results.{bootResult}
 use Rattle.base.specs.Question.{ask}
 use borrow.Author.Tests.{eq-eqb, ne-eqb}
 use mathlib.Core.Path.{ap, _∙_}

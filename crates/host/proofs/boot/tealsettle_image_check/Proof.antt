@@ -1,5 +1,5 @@
 -- `tealsettle_image_check` meets its contract.
-use Rattle.host.specs.Results.{imageResult}
+use Rattle.results.specs.Results.{imageResult}
 use Rattle.base.specs.Question.{ask}
 use borrow.Author.Tests.{eq-eqb, ne-eqb}
 use mathlib.Core.Path.{ap, _∙_}

@@ -1,5 +1,5 @@
 -- `tealsettle_build` meets its contract.
-use Rattle.host.specs.Results.{buildResult}
+use Rattle.results.specs.Results.{buildResult}
 use Rattle.base.specs.Question.{ask}
 use Rattle.chip.specs.Answers.{buildAnswer, buildOutput}
 use lib.ListN.{length}

@@ -1,5 +1,5 @@
 -- `tealsettle_cut_run` meets its contract.
-use Rattle.host.specs.Results.{benchResult}
+use Rattle.results.specs.Results.{benchResult}
 use Rattle.base.specs.Question.{ask}
 use borrow.Author.Tests.{eq-eqb, ne-eqb}
 use mathlib.Core.Path.{refl, ap, _∙_}

@@ -1,5 +1,5 @@
 -- `tealsettle_finished` meets its contract.
-use Rattle.host.specs.Results.{finishedResult}
+use Rattle.results.specs.Results.{finishedResult}
 use Rattle.base.specs.Question.{ask}
 use Rattle.updater.specs.Answers.{finishedAnswer}
 use borrow.Author.Tests.{eq-eqb, ne-eqb}

@@ -16,7 +16,7 @@ use Rattle.updater.specs.Orders.{Order, erase, program, look, currentOrder, ope
 use Rattle.updater.specs.Answers.{ordered, orderRefused, orderAnswer}
 use Rattle.updater.specs.declared.run.State.{State}
 use Rattle.updater.specs.declared.run.OrderAnswer.{OrderAnswer}
-use Rattle.host.specs.Results.{stateOf, orderedResult, orderResult, orderNumbers}
+use Rattle.results.specs.Results.{stateOf, orderedResult, orderResult, orderNumbers}
 use Rattle.host.proofs.run.tealsettle_order.Statement.{statement}
 use Rattle.host.proofs.run.tealsettle_order.Tie as tie
 

@@ -1,5 +1,5 @@
 -- `tealsettle_reply` meets its contract.
-use Rattle.host.specs.Results.{replyResult}
+use Rattle.results.specs.Results.{replyResult}
 use Rattle.base.specs.Question.{ask}
 use Rattle.updater.specs.Answers.{replyAnswer}
 use Rattle.updater.specs.declared.run.ReplyAnswer.the-variants.{Refused}

@@ -1,5 +1,5 @@
 -- `tealsettle_start` meets its contract.
-use Rattle.host.specs.Results.{startResult}
+use Rattle.results.specs.Results.{startResult}
 use Rattle.base.specs.Question.{ask}
 use Rattle.updater.specs.Answers.{startAnswer}
 use Rattle.chip.specs.Kind.{spi}

@@ -1,5 +1,5 @@
 -- `tealsettle_total` meets its contract.
-use Rattle.host.specs.Results.{totalResult}
+use Rattle.results.specs.Results.{totalResult}
 use Rattle.base.specs.Question.{ask}
 use Rattle.updater.specs.Answers.{totalAnswer}
 use borrow.Author.Tests.{eq-eqb, ne-eqb}

@@ -1,0 +1,285 @@
+// A run's state and answers as numbers, and a state that a host's numbers are.
+ghost use Prim.Native.Nat.{ℕ};
+ghost use mathlib.Core.Path.{_≡_};
+ghost use mathlib.Core.List.{List};
+ghost use Rattle.results.specs.Results.{stateOf, stateResult, noState, startResult, totalResult, orderWith, orderedResult, orderResult, replyResult, finishedResult};
+use chip::kind::Spi;
+use updater::orders::Operation;
+use updater::run::Asked;
+use updater::run::FinishedAnswer;
+use updater::run::ReplyAnswer;
+use updater::run::StartAnswer;
+use updater::run::State;
+use updater::run::TotalAnswer;
+
+// Where a run is.
+#[repr(C)]
+pub struct TealsettleState {
+    pub length: usize,
+    pub update: usize,
+    pub area: usize,
+    pub image_length: usize,
+    pub phase: u32,
+    pub index: usize,
+    pub outcome: u32,
+}
+
+// A refusal's number and place, or 0, 0 and the first state.
+#[repr(C)]
+pub struct TealsettleStart {
+    pub number: u32,
+    pub place: usize,
+    pub state: TealsettleState,
+}
+
+// A refusal's number and place, or 0, 0 and how many orders.
+#[repr(C)]
+pub struct TealsettleTotal {
+    pub number: u32,
+    pub place: usize,
+    pub orders: usize,
+}
+
+// A refusal's number and place; or 0, 0 and the operation (1 erase, 2 program, 3 look), its span, and the
+// bytes of a program.
+#[repr(C)]
+pub struct TealsettleOrder {
+    pub number: u32,
+    pub place: usize,
+    pub operation: u32,
+    pub address: usize,
+    pub length: usize,
+    pub bytes: [u8; 256],
+}
+
+// All of an order but its bytes, which are moved as seldom as can be.
+pub struct OrderNumbers {
+    pub number: u32,
+    pub place: usize,
+    pub operation: u32,
+    pub address: usize,
+    pub length: usize,
+}
+
+pub const PROGRAM: u32 = 2;
+
+// The number and place of a refusal or a stop, and the state handed back.
+#[repr(C)]
+pub struct TealsettleReply {
+    pub number: u32,
+    pub place: usize,
+    pub stopped: u32,
+    pub state: TealsettleState,
+}
+
+// A refusal's number and place; or 0, 0, and whether the run has ended, with which outcome.
+#[repr(C)]
+pub struct TealsettleFinished {
+    pub number: u32,
+    pub place: usize,
+    pub ended: u32,
+    pub outcome: u32,
+}
+
+// The state that a host's numbers are.
+pub fn state_of(
+    length: usize,
+    update: usize,
+    area: usize,
+    n: usize,
+    phase: u32,
+    index: usize,
+    outcome: u32,
+) -> State
+    ensures { λ r. ⌜ r ≡ stateOf length update area n phase index outcome ⌝ }
+{
+    State {
+        layout: Spi::layout(length, update, area),
+        length: n,
+        phase,
+        index,
+        outcome,
+    }
+}
+
+// A state as numbers.
+pub fn state_result(state: State) -> TealsettleState
+    ensures { λ r. ⌜ r ≡ stateResult state ⌝ }
+{
+    let layout = state.layout;
+    TealsettleState {
+        length: layout.length,
+        update: layout.update,
+        area: layout.area,
+        image_length: state.length,
+        phase: state.phase,
+        index: state.index,
+        outcome: state.outcome,
+    }
+}
+
+// What stands beside a refusal.
+pub fn no_state() -> TealsettleState
+    ensures { λ r. ⌜ r ≡ noState ⌝ }
+{
+    TealsettleState {
+        length: 0,
+        update: 0,
+        area: 0,
+        image_length: 0,
+        phase: 0,
+        index: 0,
+        outcome: 0,
+    }
+}
+
+pub fn start_result(answer: StartAnswer) -> TealsettleStart
+    ensures { λ r. ⌜ r ≡ startResult answer ⌝ }
+{
+    match answer {
+        StartAnswer::Started { state } => TealsettleStart {
+            number: 0,
+            place: 0,
+            state: state_result(state),
+        },
+        StartAnswer::Refused { number, place } => TealsettleStart {
+            number,
+            place,
+            state: no_state(),
+        },
+    }
+}
+
+pub fn total_result(answer: TotalAnswer) -> TealsettleTotal
+    ensures { λ r. ⌜ r ≡ totalResult answer ⌝ }
+{
+    match answer {
+        TotalAnswer::Total { orders } => TealsettleTotal {
+            number: 0,
+            place: 0,
+            orders,
+        },
+        TotalAnswer::Refused { number, place } => TealsettleTotal {
+            number,
+            place,
+            orders: 0,
+        },
+    }
+}
+
+// The numbers of an order.
+pub fn operation_numbers(operation: Operation) -> OrderNumbers
+    ensures { λ r. ⌜ ((bytes : List ℕ) → orderWith r bytes ≡ orderedResult operation bytes) ⌝ }
+{
+    match operation {
+        Operation::Erase { place, length } => OrderNumbers {
+            number: 0,
+            place: 0,
+            operation: 1,
+            address: place,
+            length,
+        },
+        Operation::Program { place, length } => OrderNumbers {
+            number: 0,
+            place: 0,
+            operation: PROGRAM,
+            address: place,
+            length,
+        },
+        Operation::Look { place, length } => OrderNumbers {
+            number: 0,
+            place: 0,
+            operation: 3,
+            address: place,
+            length,
+        },
+    }
+}
+
+// The numbers of an order or a refusal.
+pub fn order_numbers(asked: Asked) -> OrderNumbers
+    ensures { λ r. ⌜ ((bytes : List ℕ) → orderWith r bytes ≡ orderResult asked bytes) ⌝ }
+{
+    match asked {
+        Asked::Ordered { operation } => operation_numbers(operation),
+        Asked::Refused { number, place } => OrderNumbers {
+            number,
+            place,
+            operation: 0,
+            address: 0,
+            length: 0,
+        },
+    }
+}
+
+// An order's numbers, and the bytes beside them.
+pub fn order_result(numbers: OrderNumbers, bytes: [u8; 256]) -> TealsettleOrder
+    ensures { λ r. ⌜ r ≡ orderWith numbers bytes ⌝ }
+{
+    TealsettleOrder {
+        number: numbers.number,
+        place: numbers.place,
+        operation: numbers.operation,
+        address: numbers.address,
+        length: numbers.length,
+        bytes,
+    }
+}
+
+pub fn reply_result(answer: ReplyAnswer) -> TealsettleReply
+    ensures { λ r. ⌜ r ≡ replyResult answer ⌝ }
+{
+    match answer {
+        ReplyAnswer::Next { state } => TealsettleReply {
+            number: 0,
+            place: 0,
+            stopped: 0,
+            state: state_result(state),
+        },
+        ReplyAnswer::Stopped {
+            number,
+            place,
+            state,
+        } => TealsettleReply {
+            number,
+            place,
+            stopped: 1,
+            state: state_result(state),
+        },
+        ReplyAnswer::Refused {
+            number,
+            place,
+            state,
+        } => TealsettleReply {
+            number,
+            place,
+            stopped: 0,
+            state: state_result(state),
+        },
+    }
+}
+
+pub fn finished_result(answer: FinishedAnswer) -> TealsettleFinished
+    ensures { λ r. ⌜ r ≡ finishedResult answer ⌝ }
+{
+    match answer {
+        FinishedAnswer::Running => TealsettleFinished {
+            number: 0,
+            place: 0,
+            ended: 0,
+            outcome: 0,
+        },
+        FinishedAnswer::Ended { outcome } => TealsettleFinished {
+            number: 0,
+            place: 0,
+            ended: 1,
+            outcome,
+        },
+        FinishedAnswer::Refused { number, place } => TealsettleFinished {
+            number,
+            place,
+            ended: 0,
+            outcome: 0,
+        },
+    }
+}
