@@ -1,11 +1,11 @@
 -- Laws of yes and no, and of a question.
-use Prim.Native.Nat.{ℕ, _<_, _≤_}
-use mathlib.Core.Path.{_≡_, refl}
+use Prim.Native.Nat.{ℕ, _+_, _-_, _<_, _≤_}
+use mathlib.Core.Path.{_≡_, refl, sym}
 use mathlib.Core.Bool.{Bool, true, false, _&&_}
 use mathlib.Core.Logic.{_⊎_, inl, inr}
 use native.Mathlib.Omega.{arith}
-use borrow.Author.Tests.{ltb-true, ltb-false}
-use lib.Dec.{ltb}
+use borrow.Author.Tests.{ltb-true, ltb-false, leb-true, leb-false, le-leb, lt-leb}
+use lib.Dec.{ltb, leb}
 use Rattle.base.specs.Question.{ask}
 
 pub false-true : false ≡ true → ⊥
@@ -37,3 +37,11 @@ below-or-not a b = go (ltb a b) refl
     go : (t : Bool) → ltb a b ≡ t → (a < b) ⊎ (b ≤ a)
     go true e = inl (ltb-true a b e)
     go false e = inr (ltb-false a b e)
+
+-- Whether a span lies within so many places, asked of what is left after its own, so that no sum can wrap.
+pub fits-after : (length place count : ℕ) → place ≤ length → leb count (length - place) ≡ leb (place + count) length
+fits-after length place count h = go (leb count (length - place)) refl
+  where
+    go : (b : Bool) → leb count (length - place) ≡ b → b ≡ leb (place + count) length
+    go true e = let l = leb-true count (length - place) e in sym (le-leb (place + count) length (omega arith))
+    go false e = let l = leb-false count (length - place) e in sym (lt-leb (place + count) length (omega arith))

@@ -14,10 +14,11 @@ use Rattle.bootreader.specs.declared.reader.Outcome.{Outcome}
 use Rattle.bootreader.specs.declared.reader.Outcome.the-variants.{Loaded, Iprog, Stuck}
 use Rattle.bootreader.proofs.Laws.{length-allowed}
 use Rattle.chip.specs.Layout.{page, segment, switchAt, updateAllowed, areaAllowed, askLayout}
-use Rattle.chip.specs.Flash.{erased, span, within, cleared, afterProgram}
+use Rattle.flash.specs.Flash.{erased, span, within, cleared, afterProgram}
 use Rattle.chip.specs.Kind.{Kind, Lawful, spi, spiOn}
 use Rattle.chip.specs.declared.kind.Layout.{Layout}
-use Rattle.chip.proofs.Laws.{update-allowed, area-allowed, span-at, span-length, over-length, over-before, over-inside, within-over, erased-length, cleared-length, spi-lawful, erased-at}
+use Rattle.chip.proofs.Laws.{update-allowed, area-allowed, spi-lawful}
+use Rattle.flash.proofs.Laws.{span-at, span-length, over-length, over-before, over-inside, within-over, erased-length, cleared-length, erased-at}
 use Rattle.updater.specs.Run.{byPhase, count, before, total, position, first, after, running, fits}
 use Rattle.updater.specs.Orders.{Order, erase, program, look, pageOf, orderOf, orders, currentOrder, operationOf, programmed, orderBytes}
 use Rattle.bench.specs.Effects.{placeOf, obeyedSpan, leaves, obeyed, obeyedAll, spanOf, Bytes}

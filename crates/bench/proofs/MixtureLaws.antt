@@ -14,8 +14,9 @@ use lib.Seq.{length-take-le, getD-take, drop-cons}
 use Rattle.base.specs.Question.{ask}
 use Rattle.base.proofs.Laws.{asked, both-true, false-true, below-or-not}
 use Rattle.chip.specs.Layout.{segment}
-use Rattle.chip.specs.Flash.{span, bit, Mixed, MayLeave}
-use Rattle.chip.proofs.Laws.{span-length, same-bits, bit-most, bit-and}
+use Rattle.flash.specs.Flash.{span, bit, Mixed}
+use Rattle.chip.specs.Cut.{MayLeave}
+use Rattle.flash.proofs.Laws.{span-length, same-bits, bit-most, bit-and}
 use Rattle.bench.specs.Effects.{Bytes}
 use Rattle.bench.specs.Bench.{mixture, spanAllows}
 

@@ -8,7 +8,8 @@ use lib.ListN.{length, drop, length-take, length-drop}
 use Rattle.chip.specs.Layout.{page}
 use Rattle.chip.specs.Kind.{Kind, Lawful}
 use Rattle.chip.specs.declared.kind.Layout.{Layout}
-use Rattle.chip.proofs.Laws.{erased-length, update-allowed}
+use Rattle.flash.proofs.Laws.{erased-length}
+use Rattle.chip.proofs.Laws.{update-allowed}
 use Rattle.comparison.proofs.Laws.{filled-length}
 use Rattle.updater.specs.Run.{byPhase, count}
 use Rattle.updater.specs.Orders.{pageOf, orderOf}

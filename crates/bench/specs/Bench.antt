@@ -7,7 +7,7 @@ use lib.Dec.{eqb, leb, ltb}
 use lib.ListN.{length, take, drop}
 use Rattle.base.specs.Question.{ask}
 use Rattle.chip.specs.Layout.{segment}
-use Rattle.chip.specs.Flash.{span}
+use Rattle.flash.specs.Flash.{span}
 use Rattle.chip.specs.Kind.{Kind}
 use Rattle.chip.specs.Answers.{layoutOf}
 use Rattle.chip.specs.declared.kind.Layout.{Layout}

@@ -6,7 +6,7 @@ use mathlib.Core.List.{List, [], _∷_}
 use lib.ListN.{length, getD}
 use Rattle.chip.specs.Layout.{page, segment}
 use Rattle.chip.specs.declared.kind.Layout.{Layout}
-use Rattle.chip.specs.Flash.{span, over, erased, afterProgram}
+use Rattle.flash.specs.Flash.{span, over, erased, afterProgram}
 use Rattle.updater.specs.Orders.{Order, erase, program, look}
 
 -- the first byte of an order's span

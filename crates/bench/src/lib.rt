@@ -6,7 +6,7 @@ ghost use mathlib.Core.Bool.{true};
 ghost use lib.ListN.{length, drop};
 ghost use Rattle.base.specs.Question.{ask};
 ghost use Rattle.chip.specs.Layout.{segment};
-ghost use Rattle.chip.specs.Flash.{erased};
+ghost use Rattle.flash.specs.Flash.{erased};
 ghost use Rattle.chip.specs.Kind.{spi};
 ghost use Rattle.updater.specs.Run.{total, position, first, running, fits};
 ghost use Rattle.updater.specs.Orders.{orders, currentOrder};
@@ -20,9 +20,9 @@ use updater::orders::after_order;
 use updater::orders::current_bytes;
 use updater::orders::current_operation;
 use updater::run::start;
-use chip::flash::erase;
-use chip::flash::program;
-use chip::flash::write;
+use flash::erase;
+use flash::program;
+use flash::write;
 use chip::kind::Spi;
 
 // The run's state before the cut order, or at its end; or a refusal that left the chip as it was.

@@ -23,7 +23,7 @@ pub enum ImageAnswer {
 }
 
 // Question 4: has the image 1 byte to its area's length?
-fn length_allowed(longest: usize, length: usize) -> bool
+pub fn length_allowed(longest: usize, length: usize) -> bool
     ensures { λ r. ⌜ r ≡ imageLength longest length ⌝ }
 {
     if length == 0 {

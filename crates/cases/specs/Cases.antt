@@ -6,7 +6,7 @@ use lib.ListN.{length, take, replicate}
 use Rattle.bootreader.specs.Answers.{imageAnswer}
 use Rattle.bootreader.specs.declared.image.ImageAnswer.{ImageAnswer}
 use Rattle.bootreader.specs.declared.image.ImageAnswer.the-variants.{Accepted, Refused}
-use Rattle.chip.specs.Flash.{erased}
+use Rattle.flash.specs.Flash.{erased}
 use Rattle.chip.specs.Answers.{layoutOf, layoutAnswer, switchAnswer}
 use Rattle.chip.specs.declared.kind.LayoutAnswer.{LayoutAnswer}
 use Rattle.chip.specs.declared.kind.LayoutAnswer.the-variants.{Allowed, Refused as LayoutRefused}

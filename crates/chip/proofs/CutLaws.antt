@@ -10,10 +10,10 @@ use lib.ListN.{length, getD, getD-replicate}
 use lib.Seq.{ext-getD}
 use Rattle.bootreader.proofs.Laws.{length-allowed}
 use Rattle.chip.specs.Layout.{segment, switchAt, goldenAt}
-use Rattle.chip.specs.Flash.{erased, span, over, cleared, afterProgram, bit, MayLeave}
+use Rattle.flash.specs.Flash.{erased, span, over, cleared, afterProgram, bit}
+use Rattle.chip.specs.Cut.{MayLeave}
 use Rattle.chip.specs.Kind.{Kind, switchWord, goldenArea, Covers, LoadsAlone, Good}
-use Rattle.chip.proofs.FlashLaws.{erased-length, cleared-length, cleared-at, span-at, span-length, over-length, over-before, over-inside, over-after}
-use Rattle.chip.proofs.BitLaws.{same-bits, all-ones, bit-most, bit-and}
+use Rattle.flash.proofs.Laws.{erased-length, cleared-length, cleared-at, span-at, span-length, over-length, over-before, over-inside, over-after, same-bits, all-ones, bit-most, bit-and}
 use Rattle.chip.proofs.LayoutLaws.{update-allowed}
 use Rattle.chip.proofs.SwitchLaws.{word-at}
 

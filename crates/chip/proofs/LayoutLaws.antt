@@ -28,14 +28,6 @@ area-allowed length update area e =
     let b = asked _ _ _ _ (a .1) false-true in
     (eqb-true _ _ (a .0), leb-true _ _ (b .0), leb-true _ _ (b .1))
 
--- Question 3 asked of what is left after U.
-pub fits-after : (length update area : ℕ) → update ≤ length → leb area (length - update) ≡ leb (update + area) length
-fits-after length update area h = go (leb area (length - update)) refl
-  where
-    go : (b : Bool) → leb area (length - update) ≡ b → b ≡ leb (update + area) length
-    go true e = let l = leb-true area (length - update) e in sym (le-leb (update + area) length (omega arith))
-    go false e = let l = leb-false area (length - update) e in sym (lt-leb (update + area) length (omega arith))
-
 -- what a layout's answer comes to for one who asks more
 unfoldable pub onLayout {ℓ} : {A : Type ℓ} → (ℕ → ℕ → A) → A → LayoutAnswer → A
 onLayout refused rest Allowed = rest

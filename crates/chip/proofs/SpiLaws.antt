@@ -21,7 +21,7 @@ use Rattle.base.proofs.Laws.{false-true}
 use Rattle.framing.proofs.Laws.{differs-at, word-of}
 use Rattle.chip.specs.Layout.{segment, switchAt, goldenAt}
 use Rattle.chip.specs.Kind.{spi, spiOn, spiHeader, switchWord, goldenArea, Good, LoadsAlone, Loads, Stands, Lawful}
-use Rattle.chip.proofs.FlashLaws.{span-at, span-length}
+use Rattle.flash.proofs.Laws.{span-at, span-length}
 use Rattle.chip.proofs.LayoutLaws.{update-allowed}
 use Rattle.chip.proofs.SwitchLaws.{on-bytes, off-no-sync, spi-stays-off}
 

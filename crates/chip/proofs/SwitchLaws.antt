@@ -10,10 +10,9 @@ use Rattle.framing.specs.Search.{syncBytes, starts}
 use Rattle.base.proofs.Laws.{false-of, false-true}
 use Rattle.framing.proofs.Laws.{starts-at, starts-all, starts-differs}
 use Rattle.chip.specs.Layout.{switchAt}
-use Rattle.chip.specs.Flash.{bit}
+use Rattle.flash.specs.Flash.{bit}
 use Rattle.chip.specs.Kind.{spi, spiOn, switchWord, Covers}
-use Rattle.chip.proofs.FlashLaws.{span-at, span-length}
-use Rattle.chip.proofs.BitLaws.{same-bits}
+use Rattle.flash.proofs.Laws.{span-at, span-length, same-bits}
 
 pub word-at : (chip : List ℕ) (j : ℕ) → j < 4 → getD (switchWord chip) j 0 ≡ getD chip (switchAt + j) 0
 word-at chip j h = span-at chip switchAt 4 j h

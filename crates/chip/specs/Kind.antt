@@ -12,7 +12,7 @@ use Rattle.bootreader.specs.declared.reader.Outcome.{Outcome}
 use Rattle.bootreader.specs.declared.reader.Outcome.the-variants.{Loaded}
 use Rattle.packets.specs.declared.trace.Write.{Write}
 use Rattle.chip.specs.Layout.{segment, switchAt, goldenAt, updateAllowed}
-use Rattle.chip.specs.Flash.{erased, span, bit}
+use Rattle.flash.specs.Flash.{erased, span, bit}
 
 -- What one chip kind has of its own: the ON word as its bytes stand on the chip, which switch words are ON, the bytes of segment 1's words for a U, and how the FPGA reads a chip, an image by itself, and the writes of a reading.
 pub record Kind : Type 0 where

@@ -1,7 +1,4 @@
-// The chip: its kind's fixed numbers and its layout (`kind`), its switch word (`switch`), what an erase
-// and a program do to its bytes (`flash`), and the first chip of a printer (`builder`).
+// The chip: its kind's fixed numbers and its layout (`kind`), and its switch word (`switch`).
 
-pub mod builder;
-pub mod flash;
 pub mod kind;
 pub mod switch;

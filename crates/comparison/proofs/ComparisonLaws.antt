@@ -9,8 +9,8 @@ use borrow.Author.Tests.{ltb-true, ltb-false, eqb-true, eq-eqb, ne-eqb}
 use lib.Dec.{eqb, ltb}
 use lib.ListN.{length, getD, set, take, drop, length-append, getD-replicate, take-append-drop, drop-of-length-le, List·getD-append, List·getD-eq-default}
 use lib.Seq.{paste-suc, take-length, drop-cons, getD-append-add}
-use Rattle.chip.specs.Flash.{erased}
-use Rattle.chip.proofs.Laws.{getD-any, erased-length}
+use Rattle.flash.specs.Flash.{erased}
+use Rattle.flash.proofs.Laws.{getD-any, erased-length}
 use Rattle.comparison.specs.Comparison.{filled, differs}
 
 -- Bytes, then FF: byte k, and how many there are.

@@ -5,7 +5,7 @@ ghost use mathlib.Core.Path.{_≡_};
 ghost use mathlib.Core.Bool.{true};
 ghost use lib.ListN.{length};
 ghost use Rattle.chip.specs.Layout.{page};
-ghost use Rattle.chip.specs.Flash.{erased};
+ghost use Rattle.flash.specs.Flash.{erased};
 ghost use Rattle.comparison.specs.Comparison.{filled, differs, comparison};
 
 // What comparing came to: all bytes agree, or the first address at which they do not.

@@ -8,9 +8,9 @@ use Rattle.bootreader.specs.Answers.{bootAnswer, chipWrite, imageAnswer}
 use Rattle.bootreader.specs.declared.chip.BootAnswer.the-variants.{Refused as BootRefused}
 use Rattle.packets.specs.declared.trace.WriteAnswer.the-variants.{Refused as WriteRefused}
 use Rattle.bootreader.specs.declared.image.ImageAnswer.the-variants.{Refused as ImageRefused}
-use Rattle.chip.specs.Answers.{buildAnswer, buildOutput}
+use Rattle.builder.specs.Builder.{buildAnswer, buildOutput}
 use Rattle.chip.specs.declared.kind.Layout.{Layout}
-use Rattle.chip.specs.declared.builder.BuildAnswer.the-variants.{Refused as BuildRefused}
+use Rattle.builder.specs.declared.BuildAnswer.the-variants.{Refused as BuildRefused}
 use Rattle.chip.specs.Kind.{spi}
 use Rattle.updater.specs.Answers.{startAnswer, totalAnswer, orderRefused, orderAnswer, replyAnswer, finishedAnswer}
 use Rattle.bench.specs.Bench.{benchLayout, benchAnswer, benchOutput}

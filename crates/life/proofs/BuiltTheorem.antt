@@ -10,10 +10,11 @@ use Rattle.base.proofs.Laws.{false-true}
 use Rattle.bootreader.proofs.Laws.{length-allowed, accepted-length, boots, booted, accepts, whole-writes}
 use Rattle.chip.specs.Layout.{goldenAt}
 use Rattle.chip.specs.Kind.{Kind, spi, switchWord, goldenArea, Loads, Good, Stands}
-use Rattle.chip.specs.Answers.{builtChip, buildAnswer}
+use Rattle.builder.specs.Builder.{builtChip, buildAnswer}
 use Rattle.chip.specs.declared.kind.Layout.{Layout}
-use Rattle.chip.specs.declared.builder.BuildAnswer.the-variants.{Built}
-use Rattle.chip.proofs.Laws.{spi-lawful, questions, update-allowed, built-good, built-off, built-loads}
+use Rattle.builder.specs.declared.BuildAnswer.the-variants.{Built}
+use Rattle.chip.proofs.Laws.{spi-lawful, update-allowed}
+use Rattle.builder.proofs.Laws.{questions, built-good, built-off, built-loads}
 use Rattle.life.specs.Life.{fresh, Event, Valid, life, Claim, Begins}
 use Rattle.life.specs.Built.{Boots, BuiltDemand3}
 use Rattle.life.proofs.LifeTheorem.{Reads, claims}

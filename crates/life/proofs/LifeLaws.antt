@@ -13,10 +13,12 @@ use lib.Seq.{ext-getD}
 use Rattle.base.proofs.Laws.{false-true}
 use Rattle.bootreader.proofs.Laws.{length-allowed}
 use Rattle.chip.specs.Layout.{page, segment, switchAt}
-use Rattle.chip.specs.Flash.{erased, span, over, afterProgram, MayLeave}
+use Rattle.flash.specs.Flash.{erased, span, over, afterProgram}
+use Rattle.chip.specs.Cut.{MayLeave}
 use Rattle.chip.specs.Kind.{Kind, switchWord, goldenArea, Covers, LoadsAlone, Good, Stands, Lawful}
 use Rattle.chip.specs.declared.kind.Layout.{Layout}
-use Rattle.chip.proofs.Laws.{getD-any, span-at, span-length, over-length, over-before, over-after, erased-length, cleared-length, update-allowed, area-allowed, golden-stays, erase-good, program-good, area-switch, area-good}
+use Rattle.flash.proofs.Laws.{getD-any, span-at, span-length, over-length, over-before, over-after, erased-length, cleared-length}
+use Rattle.chip.proofs.Laws.{update-allowed, area-allowed, golden-stays, erase-good, program-good, area-switch, area-good}
 use Rattle.updater.specs.Run.{byPhase, count, after, ended, running, fits}
 use Rattle.updater.specs.Orders.{Order, erase, program, look, pageOf, orderOf}
 use Rattle.comparison.specs.Comparison.{filled, differs}

@@ -11,8 +11,9 @@ use lib.Dec.{ltb}
 use lib.Bits.{bitAnd, and-comm, and-le-r, and-mask}
 use lib.ListN.{length, getD, getD-replicate}
 use lib.Seq.{ext-getD}
-use Rattle.chip.specs.Flash.{erased, span, over, afterProgram}
-use Rattle.chip.proofs.Laws.{span-at, span-length, over-length, over-before, over-inside, over-after, erased-length, erased-at, cleared-length, cleared-at, obeyed-may}
+use Rattle.flash.specs.Flash.{erased, span, over, afterProgram}
+use Rattle.flash.proofs.Laws.{span-at, span-length, over-length, over-before, over-inside, over-after, erased-length, erased-at, cleared-length, cleared-at}
+use Rattle.chip.proofs.Laws.{obeyed-may}
 use Rattle.updater.specs.Orders.{Order, erase, program, look}
 use Rattle.bench.specs.Effects.{obeyedSpan, leaves, obeyed}
 use Rattle.life.specs.Life.{MayBeLeft, saidTo, readBy}

@@ -8,10 +8,11 @@ use native.Mathlib.Omega.{arith}
 use lib.ListN.{length, getD, List·getD-eq-default}
 use lib.Seq.{ext-getD}
 use Rattle.chip.specs.Layout.{page, segment, switchAt}
-use Rattle.chip.specs.Flash.{erased}
+use Rattle.flash.specs.Flash.{erased}
 use Rattle.chip.specs.Kind.{Kind, switchWord, Lawful}
 use Rattle.chip.specs.declared.kind.Layout.{Layout}
-use Rattle.chip.proofs.Laws.{getD-any, span-at, span-length, erased-length, update-allowed, area-allowed, erased-at}
+use Rattle.flash.proofs.Laws.{getD-any, span-at, span-length, erased-length, erased-at}
+use Rattle.chip.proofs.Laws.{update-allowed, area-allowed}
 use Rattle.updater.specs.Run.{byPhase, pages, count}
 use Rattle.updater.specs.Orders.{erase, program, pageOf, orderOf}
 use Rattle.comparison.specs.Comparison.{filled}

@@ -25,7 +25,7 @@ use Rattle.life.specs.OrderList.{Replies, FirstDiffers, Moved, Halted}
 use Rattle.updater.specs.declared.run.State.{State}
 use Rattle.updater.specs.declared.run.StartAnswer.the-variants.{Started, Refused as StartRefused}
 use Rattle.updater.specs.declared.run.ReplyAnswer.the-variants.{Next, Stopped, Refused}
-use Rattle.updater.proofs.Laws.{Numbers}
+use Rattle.updater.proofs.Laws.{asked-for, Numbers}
 
 -- Where bytes differ, the address is that of the first byte that does.
 pub some-differs : (place : ℕ) (bytes must : List ℕ) (address : ℕ) → differs place bytes must ≡ some address → FirstDiffers place bytes must address
@@ -63,9 +63,6 @@ some-differs place (byte ∷ bytes) (m ∷ must) address e = go (eqb byte m) ref
         }
 
 -- Question 8 with a yes.
-asked-for : (what count said lent : ℕ) → asksFor what count said lent ≡ true → (said ≡ what) × (lent ≡ count)
-asked-for what count said lent e = let b = both-true (eqb said what) (eqb lent count) e in (eqb-true said what (b .0), eqb-true lent count (b .1))
-
 for-asked : (what count said lent : ℕ) → said ≡ what → lent ≡ count → asksFor what count said lent ≡ true
 for-asked what count said lent p q = rw (eq-eqb said what p, eq-eqb lent count q) refl
 

@@ -8,9 +8,9 @@ use Rattle.bootreader.specs.Answers.{imageAnswer, imageWrite, bootAnswer, chipW
 use Rattle.bootreader.specs.declared.chip.BootAnswer.the-variants.{Loaded}
 use Rattle.bootreader.specs.declared.image.ImageAnswer.the-variants.{Accepted}
 use Rattle.chip.specs.Kind.{spi}
-use Rattle.chip.specs.Answers.{builtChip, buildAnswer}
+use Rattle.builder.specs.Builder.{builtChip, buildAnswer}
 use Rattle.chip.specs.declared.kind.Layout.{Layout}
-use Rattle.chip.specs.declared.builder.BuildAnswer.the-variants.{Built}
+use Rattle.builder.specs.declared.BuildAnswer.the-variants.{Built}
 use Rattle.life.specs.Life.{fresh, Event, Valid, life, Claim}
 
 -- A chip loads an image that stands at a place, whole, jumped or not: its boot answer is the image's check moved there, and its i-th write, places apart, is the image's own, for every i.

@@ -7,7 +7,8 @@ use mathlib.Core.List.{List, [], _∷_}
 use lib.Dec.{eqb}
 use lib.ListN.{length, getD}
 use Rattle.chip.specs.Layout.{goldenAt}
-use Rattle.chip.specs.Flash.{span, MayLeave}
+use Rattle.flash.specs.Flash.{span}
+use Rattle.chip.specs.Cut.{MayLeave}
 use Rattle.chip.specs.Kind.{Kind, switchWord, goldenArea, LoadsAlone, Loads, Good, Stands}
 use Rattle.chip.specs.declared.kind.Layout.{Layout}
 use Rattle.updater.specs.Run.{running, first, ended}

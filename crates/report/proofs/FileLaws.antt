@@ -9,11 +9,11 @@ use lib.ListN.{length, drop, drop-of-length-le}
 use Rattle.base.specs.Question.{ask}
 use Rattle.bootreader.specs.Answers.{lengthAllowed}
 use Rattle.mcs.specs.Reading.{Holds, Refused, readText}
-use Rattle.chip.specs.Answers.{builtChip, buildAnswer, outputOf, buildOutput}
-use Rattle.chip.specs.declared.builder.BuildAnswer.{BuildAnswer}
-use Rattle.chip.specs.declared.builder.BuildAnswer.the-variants.{Built, Refused as NotBuilt}
+use Rattle.builder.specs.Builder.{builtChip, buildAnswer, outputOf, buildOutput}
+use Rattle.builder.specs.declared.BuildAnswer.{BuildAnswer}
+use Rattle.builder.specs.declared.BuildAnswer.the-variants.{Built, Refused as NotBuilt}
 use Rattle.base.proofs.Laws.{asked-yes}
-use Rattle.chip.proofs.Laws.{golden-room, built-length}
+use Rattle.builder.proofs.Laws.{golden-room, built-length}
 use Rattle.report.specs.Lines.{refusedLine, chipReport}
 use Rattle.report.specs.Files.{reportLayout, onBuilt, builtReport, onReading, fileReport}
 use Rattle.report.specs.Answers.{written, filledBy, chipAnswer, chipOutput}

@@ -5,10 +5,11 @@ use lib.Dec.{leb}
 use lib.ListN.{length}
 use Rattle.base.specs.Question.{ask}
 use Rattle.mcs.specs.Reading.{Reading, Holds, Refused, readText}
-use Rattle.chip.specs.Answers.{layoutOf, builtChip, buildAnswer}
+use Rattle.chip.specs.Answers.{layoutOf}
+use Rattle.builder.specs.Builder.{builtChip, buildAnswer}
 use Rattle.chip.specs.declared.kind.Layout.{Layout}
-use Rattle.chip.specs.declared.builder.BuildAnswer.{BuildAnswer}
-use Rattle.chip.specs.declared.builder.BuildAnswer.the-variants.{Built, Refused as NotBuilt}
+use Rattle.builder.specs.declared.BuildAnswer.{BuildAnswer}
+use Rattle.builder.specs.declared.BuildAnswer.the-variants.{Built, Refused as NotBuilt}
 use Rattle.report.specs.Lines.{refusedLine, chipReport}
 
 -- It builds F 32,768, U 16,384, A 16,384,

@@ -7,8 +7,8 @@ ghost use Rattle.report.specs.Answers.{written, filledBy, fileAnswer, fi
 use crate::boot;
 use crate::refusal;
 use crate::refusal::ReportAnswer;
-use chip::builder::BuildAnswer;
-use chip::builder::build;
+use builder::BuildAnswer;
+use builder::build;
 use chip::kind::Spi;
 use mcs::reader::ReadAnswer;
 use mcs::reader::read;

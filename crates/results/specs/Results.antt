@@ -12,8 +12,8 @@ use Rattle.bootreader.specs.declared.image.ImageAnswer.the-variants.{Accepted, 
 use Rattle.mcs.specs.declared.reader.ReadAnswer.{ReadAnswer}
 use Rattle.mcs.specs.declared.reader.ReadAnswer.the-variants.{Read, Refused as ReadRefused}
 use Rattle.chip.specs.Answers.{layoutOf}
-use Rattle.chip.specs.declared.builder.BuildAnswer.{BuildAnswer}
-use Rattle.chip.specs.declared.builder.BuildAnswer.the-variants.{Built, Refused as BuildRefused}
+use Rattle.builder.specs.declared.BuildAnswer.{BuildAnswer}
+use Rattle.builder.specs.declared.BuildAnswer.the-variants.{Built, Refused as BuildRefused}
 use Rattle.updater.specs.declared.run.State.{State}
 use Rattle.updater.specs.declared.run.StartAnswer.{StartAnswer}
 use Rattle.updater.specs.declared.run.StartAnswer.the-variants.{Started, Refused as StartRefused}

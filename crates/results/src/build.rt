@@ -1,7 +1,7 @@
 // What building a chip came to, as numbers.
 ghost use mathlib.Core.Path.{_≡_};
 ghost use Rattle.results.specs.Results.{buildResult};
-use chip::builder::BuildAnswer;
+use builder::BuildAnswer;
 
 // A refusal's number and place, or 0 and 0.
 #[repr(C)]

@@ -5,16 +5,17 @@ use mathlib.Core.Bool.{Bool, true, false}
 use mathlib.Core.Option.{Option, some, none}
 use mathlib.Core.List.{List, [], _∷_, _++_}
 use native.Mathlib.Omega.{arith}
-use borrow.Author.Tests.{leb-true, leb-false, eq-eqb, ne-eqb}
+use borrow.Author.Tests.{leb-true, leb-false, eqb-true}
 use lib.Dec.{eqb, leb}
 use lib.ListN.{length, getD, set, take, drop, length-take, length-drop, take-append-drop, drop-of-length-le}
 use lib.Seq.{take-all, take-length, drop-cons, paste-suc}
 use Rattle.base.specs.Question.{ask}
+use Rattle.base.proofs.Laws.{both-true}
 use Rattle.bootreader.specs.Answers.{imageLength, imageWithin}
 use Rattle.bootreader.specs.declared.image.ImageAnswer.{ImageAnswer}
 use Rattle.bootreader.proofs.Laws.{onAnswer, by-answer, length-allowed}
 use Rattle.chip.specs.Layout.{page}
-use Rattle.chip.specs.Flash.{erased}
+use Rattle.flash.specs.Flash.{erased}
 use Rattle.chip.specs.Kind.{spi}
 use Rattle.chip.specs.Answers.{layoutAnswer}
 use Rattle.chip.specs.declared.kind.Layout.{Layout}
@@ -199,6 +200,10 @@ page-part image i from to e f = go (leb (page * i + page) (length image)) refl (
         let t : to - from ≡ 0 = omega (arith, e, f) in
         let z : drop (page * i) image ≡ [] = drop-of-length-le image {i = page * i} (omega arith) in
         rw (t, z) refl
+
+-- Question 8 with a yes.
+pub asked-for : (what count said lent : ℕ) → asksFor what count said lent ≡ true → (said ≡ what) × (lent ≡ count)
+asked-for what count said lent e = let b = both-true (eqb said what) (eqb lent count) e in (eqb-true said what (b .0), eqb-true lent count (b .1))
 
 -- A reply to a look goes by the comparison,
 unfoldable pub onComparison : Comparison → State → ReplyAnswer

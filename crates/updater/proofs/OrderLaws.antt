@@ -9,10 +9,10 @@ use lib.Dec.{ltb}
 use lib.ListN.{length, getD, drop, length-append, getD-replicate, List·getD-append, List·getD-eq-default, drop-of-length-le}
 use lib.Seq.{getD-append-add, getD-take, getD-drop, drop-cons}
 use Rattle.chip.specs.Layout.{page}
-use Rattle.chip.specs.Flash.{erased}
+use Rattle.flash.specs.Flash.{erased}
 use Rattle.chip.specs.Kind.{Kind}
 use Rattle.chip.specs.declared.kind.Layout.{Layout}
-use Rattle.chip.proofs.Laws.{getD-any, erased-length}
+use Rattle.flash.proofs.Laws.{getD-any, erased-length}
 use Rattle.updater.specs.Run.{count, before, total, position, running, fits}
 use Rattle.updater.specs.Orders.{Order, erase, pageOf, orderOf, inPhase, ordersBefore, orders, currentOrder}
 use Rattle.comparison.specs.Comparison.{filled}

@@ -33,9 +33,13 @@ pub record Numbers (layout : Layout) (n : ℕ) : Type 0 where
   pub spans : areaAllowed (layout .length) (layout .update) (layout .area) ≡ true
   pub image : imageLength (layout .area) n ≡ true
 
-pub numbers-image : (layout : Layout) (n : ℕ) → Numbers layout n → (1 ≤ n) × (n ≤ layout .area)
+-- what question 4 says of an image's length
+pub image-most : (longest n : ℕ) → imageLength longest n ≡ true → (1 ≤ n) × (n ≤ longest)
 unfolding imageLength
-numbers-image layout n numbers = let a = asked _ _ _ _ (numbers .image) false-true in (leb-true _ _ (a .0), leb-true _ _ (a .1))
+image-most longest n e = let a = asked _ _ _ _ e false-true in (leb-true _ _ (a .0), leb-true _ _ (a .1))
+
+pub numbers-image : (layout : Layout) (n : ℕ) → Numbers layout n → (1 ≤ n) × (n ≤ layout .area)
+numbers-image layout n numbers = image-most (layout .area) n (numbers .image)
 
 -- What a state that fits says.
 pub record Fits (state : State) (lent : ℕ) : Type 0 where

@@ -8,7 +8,7 @@ use lib.ListN.{length}
 use Rattle.base.specs.Question.{ask}
 use Rattle.bootreader.specs.Answers.{imageLength, aloneCase}
 use Rattle.chip.specs.Layout.{page, askLayout}
-use Rattle.chip.specs.Flash.{erased}
+use Rattle.flash.specs.Flash.{erased}
 use Rattle.chip.specs.Kind.{Kind}
 use Rattle.chip.specs.declared.kind.Layout.{Layout}
 use Rattle.updater.specs.Run.{byPhase, total, first, after, ended, running, fits}

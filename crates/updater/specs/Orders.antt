@@ -6,7 +6,7 @@ use mathlib.Core.List.{List, [], _∷_, _++_}
 use lib.Dec.{eqb}
 use lib.ListN.{length, getD}
 use Rattle.chip.specs.Layout.{page, segment, switchAt}
-use Rattle.chip.specs.Flash.{erased, span}
+use Rattle.flash.specs.Flash.{erased, span}
 use Rattle.chip.specs.Kind.{Kind}
 use Rattle.chip.specs.declared.kind.Layout.{Layout}
 use Rattle.comparison.specs.Comparison.{filled}

@@ -7,12 +7,14 @@ ghost use mathlib.Core.Bool.{true};
 ghost use lib.ListN.{length};
 ghost use Rattle.base.specs.Question.{ask};
 ghost use Rattle.chip.specs.Layout.{page};
-ghost use Rattle.chip.specs.Flash.{erased};
+ghost use Rattle.flash.specs.Flash.{erased};
+ghost use Rattle.chip.specs.Answers.{layoutAnswer};
+ghost use Rattle.chip.specs.declared.kind.LayoutAnswer.the-variants.{Allowed};
 ghost use Rattle.chip.specs.Kind.{spi, spiOn};
 ghost use Rattle.updater.specs.Run.{count, outcomeAllowed, stands, fits, running, after};
 ghost use Rattle.updater.specs.Orders.{currentOrder, operationOf, programmed, orderBytes, lookedFor};
 ghost use Rattle.comparison.specs.Comparison.{filled, differs, comparison};
-ghost use Rattle.updater.specs.Answers.{startAnswer, totalAnswer, finishedCase, finishedAnswer, orderAnswer, done, asksFor, stopOf, compared, repliedTo, replyAnswer};
+ghost use Rattle.updater.specs.Answers.{startAnswer, totalAnswer, finishedCase, finishedAnswer, orderRefused, orderAnswer, done, asksFor, stopOf, compared, repliedTo, replyAnswer};
 ghost use Rattle.updater.specs.declared.orders.Operation.the-variants.{Look};
 ghost use Rattle.updater.specs.declared.run.ReplyAnswer.the-variants.{Next, Refused};
 use base::smaller;
@@ -28,6 +30,7 @@ use chip::kind::LayoutAnswer;
 use chip::kind::Spi;
 use bootreader::image::ImageAnswer;
 use bootreader::image::check_within;
+use bootreader::image::length_allowed;
 
 // Where a run is: its layout, the length of its image, phase, index of the order in the phase (0 in
 // phase 7), and outcome (0; 10 to 12 in phase 7 after a stop).
@@ -127,10 +130,7 @@ fn fits_image(state: State, lent: usize) -> bool
     let allowed = layout.check();
     match allowed {
         LayoutAnswer::Allowed => {
-            if state.length < 1 {
-                return false;
-            }
-            if layout.area < state.length {
+            if !length_allowed(layout.area, state.length) {
                 return false;
             }
             if !stands_in_phase(state) {
@@ -145,32 +145,57 @@ fn fits_image(state: State, lent: usize) -> bool
     }
 }
 
+// Questions 4 and 5 of a layout that is allowed, then the first state.
+fn start_allowed(layout: Layout, image: &[u8]) -> StartAnswer
+    requires { ⌜ layoutAnswer layout ≡ Allowed ⌝ }
+    ensures { λ r. ⌜ r ≡ startAnswer spi layout (now (image .entry)) ⌝ }
+{
+    let checked = check_within(image, layout.area);
+    match checked {
+        ImageAnswer::Accepted {
+            sync: _,
+            end: _,
+            writes: _,
+        } => StartAnswer::Started {
+            state: State {
+                layout,
+                length: image.len(),
+                phase: 0,
+                index: 0,
+                outcome: 0,
+            },
+        },
+        ImageAnswer::Refused { number, place } => StartAnswer::Refused { number, place },
+    }
+}
+
 // Starts a run: questions 1 to 5, then its first state.
 pub fn start(layout: Layout, image: &[u8]) -> StartAnswer
     ensures { λ r. ⌜ r ≡ startAnswer spi layout (now (image .entry)) ⌝ }
 {
     let allowed = layout.check();
     match allowed {
-        LayoutAnswer::Allowed => {
-            let checked = check_within(image, layout.area);
-            match checked {
-                ImageAnswer::Accepted {
-                    sync: _,
-                    end: _,
-                    writes: _,
-                } => StartAnswer::Started {
-                    state: State {
-                        layout,
-                        length: image.len(),
-                        phase: 0,
-                        index: 0,
-                        outcome: 0,
-                    },
-                },
-                ImageAnswer::Refused { number, place } => StartAnswer::Refused { number, place },
-            }
-        }
+        LayoutAnswer::Allowed => start_allowed(layout, image),
         LayoutAnswer::Refused { number, place } => StartAnswer::Refused { number, place },
+    }
+}
+
+// Question 4 of a layout that is allowed, then the number of orders.
+fn total_allowed(layout: Layout, length: usize) -> TotalAnswer
+    requires { ⌜ layoutAnswer layout ≡ Allowed ⌝ }
+    ensures { λ r. ⌜ r ≡ totalAnswer layout length ⌝ }
+{
+    if !length_allowed(layout.area, length) {
+        return TotalAnswer::Refused {
+            number: 4,
+            place: 0,
+        };
+    }
+    let erases = layout.area / Spi::SEGMENT;
+    let looks = layout.area / Spi::PAGE;
+    let programs = (length + 255) / Spi::PAGE;
+    TotalAnswer::Total {
+        orders: erases + looks + programs + 19,
     }
 }
 
@@ -180,26 +205,7 @@ pub fn total(layout: Layout, length: usize) -> TotalAnswer
 {
     let allowed = layout.check();
     match allowed {
-        LayoutAnswer::Allowed => {
-            if length < 1 {
-                return TotalAnswer::Refused {
-                    number: 4,
-                    place: 0,
-                };
-            }
-            if layout.area < length {
-                return TotalAnswer::Refused {
-                    number: 4,
-                    place: 0,
-                };
-            }
-            let erases = layout.area / Spi::SEGMENT;
-            let looks = layout.area / Spi::PAGE;
-            let programs = (length + 255) / Spi::PAGE;
-            TotalAnswer::Total {
-                orders: erases + looks + programs + 19,
-            }
-        }
+        LayoutAnswer::Allowed => total_allowed(layout, length),
         LayoutAnswer::Refused { number, place } => TotalAnswer::Refused { number, place },
     }
 }
@@ -271,19 +277,22 @@ fn reply_look(state: State, image: &[u8], place: usize, bytes: &[u8]) -> ReplyAn
     }
 }
 
+// Question 8: does a reply say what is asked for, with as many bytes?
+fn is_as_asked(what: u32, count: usize, said: u32, lent: usize) -> bool
+    ensures { λ r. ⌜ r ≡ asksFor what count said lent ⌝ }
+{
+    if said != what {
+        return false;
+    }
+    lent == count
+}
+
 // Question 8, for the reply to an erase or program.
 fn reply_done(state: State, said: u32, lent: usize) -> ReplyAnswer
     requires { ⌜ (fits state (state .length) ≡ true) × (running state ≡ true) ⌝ }
     ensures { λ r. ⌜ r ≡ ask (asksFor done 0 said lent) (Refused 9 0 state) (Next (after state)) ⌝ }
 {
-    if said != State::DONE {
-        return ReplyAnswer::Refused {
-            number: 9,
-            place: 0,
-            state,
-        };
-    }
-    if lent != 0 {
+    if !is_as_asked(State::DONE, 0, said, lent) {
         return ReplyAnswer::Refused {
             number: 9,
             place: 0,
@@ -311,14 +320,7 @@ fn reply_running(state: State, image: &[u8], said: u32, bytes: &[u8]) -> ReplyAn
             length: _,
         } => reply_done(state, said, bytes.len()),
         Operation::Look { place, length } => {
-            if said != State::READ {
-                return ReplyAnswer::Refused {
-                    number: 9,
-                    place: 0,
-                    state,
-                };
-            }
-            if bytes.len() != length {
+            if !is_as_asked(State::READ, length, said, bytes.len()) {
                 return ReplyAnswer::Refused {
                     number: 9,
                     place: 0,
@@ -327,6 +329,16 @@ fn reply_running(state: State, image: &[u8], said: u32, bytes: &[u8]) -> ReplyAn
             }
             reply_look(state, image, place, bytes)
         }
+    }
+}
+
+// What stands beside the refusal of an order.
+fn no_order(number: u32) -> OrderAnswer
+    ensures { λ r. ⌜ r ≡ orderRefused number ⌝ }
+{
+    OrderAnswer {
+        asked: Asked::Refused { number, place: 0 },
+        bytes: [0xFF; 256],
     }
 }
 
@@ -354,22 +366,10 @@ impl State {
         ensures { λ r. ⌜ r ≡ orderAnswer spi self (now (image .entry)) ⌝ }
     {
         if !fits_image(self, image.len()) {
-            return OrderAnswer {
-                asked: Asked::Refused {
-                    number: 7,
-                    place: 0,
-                },
-                bytes: [0xFF; 256],
-            };
+            return no_order(7);
         }
         if self.phase >= 7 {
-            return OrderAnswer {
-                asked: Asked::Refused {
-                    number: 8,
-                    place: 0,
-                },
-                bytes: [0xFF; 256],
-            };
+            return no_order(8);
         }
         OrderAnswer {
             asked: Asked::Ordered {

@@ -7,7 +7,7 @@ use native.Mathlib.Omega.{arith}
 use borrow.Author.Needs.{needs}
 use borrow.Author.Tests.{lt-ltb, le-ltb}
 use lib.ListN.{length, drop}
-use Rattle.chip.specs.Flash.{erased, span}
+use Rattle.flash.specs.Flash.{erased, span}
 use Rattle.chip.specs.Kind.{spi}
 use Rattle.updater.specs.Run.{position, running, fits}
 use Rattle.updater.specs.Orders.{Order, orders, currentOrder, operationOf}

@@ -8,8 +8,8 @@ use native.Mathlib.Numerals.{add-one}
 use borrow.Author.Tests.{eq-eqb, ne-eqb}
 use lib.ListN.{length, getD, drop}
 use lib.Seq.{drop-length}
-use Rattle.chip.specs.Flash.{erased}
-use Rattle.chip.proofs.Laws.{erased-length, erased-at}
+use Rattle.flash.specs.Flash.{erased}
+use Rattle.flash.proofs.Laws.{erased-length, erased-at}
 use Rattle.bench.specs.Bench.{mixture}
 use Rattle.bench.proofs.MixtureLaws.{mixes, mixture-from}
 use Rattle.bench.proofs.mixes_with_erased.Statement.{statement}

@@ -7,7 +7,7 @@ use native.Mathlib.Omega.{arith}
 use lib.ListN.{length, take}
 use lib.Seq.{length-take-le}
 use Rattle.chip.specs.Layout.{page}
-use Rattle.chip.specs.Flash.{within, afterProgram}
+use Rattle.flash.specs.Flash.{within, afterProgram}
 use Rattle.chip.specs.Kind.{spi}
 use Rattle.updater.specs.Run.{running, fits}
 use Rattle.updater.specs.Orders.{currentOrder, operationOf, programmed, orderBytes}

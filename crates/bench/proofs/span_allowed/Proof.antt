@@ -4,8 +4,8 @@ use mathlib.Core.Path.{sym, ap₂, _∙_}
 use native.Mathlib.Omega.{arith}
 use lib.ListN.{take}
 use lib.Seq.{length-take-le}
-use Rattle.chip.specs.Flash.{erased}
-use Rattle.chip.proofs.Laws.{erased-length}
+use Rattle.flash.specs.Flash.{erased}
+use Rattle.flash.proofs.Laws.{erased-length}
 use Rattle.bench.specs.Bench.{mixture}
 use Rattle.bench.proofs.MixtureLaws.{allows-short, allows-far, allows-near}
 use Rattle.bench.proofs.span_allowed.Statement.{statement}

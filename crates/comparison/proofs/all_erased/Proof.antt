@@ -8,8 +8,8 @@ use borrow.Author.Count.{below-more}
 use lib.ListN.{length, getD, getD-replicate}
 use lib.Seq.{ext-getD}
 use Rattle.base.proofs.Laws.{false-true}
-use Rattle.chip.specs.Flash.{erased}
-use Rattle.chip.proofs.Laws.{erased-length}
+use Rattle.flash.specs.Flash.{erased}
+use Rattle.flash.proofs.Laws.{erased-length}
 use Rattle.comparison.proofs.all_erased.Statement.{statement}
 use Rattle.comparison.proofs.all_erased.Tie as tie
 

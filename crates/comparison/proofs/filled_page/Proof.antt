@@ -5,8 +5,8 @@ use mathlib.Core.List.{List, _++_}
 use native.Mathlib.Omega.{arith}
 use lib.ListN.{length, getD, set, take, drop}
 use Rattle.chip.specs.Layout.{page}
-use Rattle.chip.specs.Flash.{erased}
-use Rattle.chip.proofs.Laws.{erased-length}
+use Rattle.flash.specs.Flash.{erased}
+use Rattle.flash.proofs.Laws.{erased-length}
 use Rattle.comparison.proofs.ComparisonLaws.{store-next, filled-all}
 use Rattle.comparison.proofs.filled_page.Statement.{statement}
 use Rattle.comparison.proofs.filled_page.Tie as tie

@@ -4,7 +4,7 @@ use mathlib.Core.Path.{_≡_, sym, ap, _∙_}
 use mathlib.Core.Logic.{⊎-elim}
 use native.Mathlib.Omega.{arith}
 use lib.ListN.{length, getD, drop, List·getD-eq-default}
-use Rattle.chip.proofs.Laws.{getD-any}
+use Rattle.flash.proofs.Laws.{getD-any}
 use Rattle.comparison.specs.Comparison.{filled, differs, comparison}
 use Rattle.comparison.proofs.ComparisonLaws.{filled-at, filled-length, differs-next, differs-here, differs-end}
 use Rattle.comparison.proofs.first_difference.Statement.{statement}

@@ -5,7 +5,7 @@ use native.Mathlib.Omega.{arith}
 use borrow.Author.Tests.{eq-eqb, ne-eqb, le-leb, lt-leb}
 use Rattle.base.specs.Question.{ask}
 use Rattle.chip.specs.Layout.{areaAllowed}
-use Rattle.chip.proofs.LayoutLaws.{fits-after}
+use Rattle.base.proofs.Laws.{fits-after}
 use Rattle.chip.proofs.kind.area_allowed.Statement.{statement}
 use Rattle.chip.proofs.kind.area_allowed.Tie as tie
 

@@ -1,7 +1,7 @@
 -- `tealsettle_build` meets its contract.
 use Rattle.results.specs.Results.{buildResult}
 use Rattle.base.specs.Question.{ask}
-use Rattle.chip.specs.Answers.{buildAnswer, buildOutput}
+use Rattle.builder.specs.Builder.{buildAnswer, buildOutput}
 use lib.ListN.{length}
 use denote.Ref.{now}
 use borrow.Author.Tests.{eq-eqb, ne-eqb}

@@ -9,7 +9,7 @@ use borrow.Author.Needs.{needs}
 use borrow.Author.Tests.{eq-eqb, ne-eqb}
 use Rattle.base.specs.Question.{ask}
 use Rattle.chip.specs.Layout.{page}
-use Rattle.chip.specs.Flash.{erased}
+use Rattle.flash.specs.Flash.{erased}
 use Rattle.chip.specs.Kind.{spi}
 use Rattle.updater.specs.Run.{running, fits}
 use Rattle.updater.specs.Orders.{Order, erase, program, look, currentOrder, operationOf, programmed, orderBytes}

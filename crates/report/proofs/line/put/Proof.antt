@@ -1,6 +1,6 @@
 -- `line::put` meets its contract.
 use mathlib.Core.Path.{sym, _∙_}
-use Rattle.chip.proofs.Laws.{paste-over, front-over}
+use Rattle.flash.proofs.Laws.{paste-over, front-over}
 use borrow.Author.Needs.{needs}
 use Rattle.report.proofs.line.put.Statement.{statement}
 use Rattle.report.proofs.line.put.Tie as tie

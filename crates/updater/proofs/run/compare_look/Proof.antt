@@ -5,9 +5,9 @@ use mathlib.Core.List.{List}
 use native.Mathlib.Omega.{arith}
 use lib.ListN.{length}
 use Rattle.chip.specs.Layout.{page}
-use Rattle.chip.specs.Flash.{erased}
+use Rattle.flash.specs.Flash.{erased}
 use Rattle.chip.specs.Kind.{spiOn}
-use Rattle.chip.proofs.Laws.{erased-length}
+use Rattle.flash.proofs.Laws.{erased-length}
 use Rattle.updater.specs.Run.{byPhase}
 use Rattle.comparison.specs.Comparison.{filled, differs, comparison}
 use Rattle.updater.specs.Orders.{pageOf, orderOf, operationOf, lookedFor}

@@ -1,26 +1,25 @@
 -- `run::reply_done` meets its contract.
-use mathlib.Core.Path.{refl, ap}
-use borrow.Author.Tests.{eq-eqb, ne-eqb}
+use mathlib.Core.Path.{refl, sym, ap, _∙_}
+use borrow.Author.Tests.{not-true, not-false}
 use Rattle.base.specs.Question.{ask}
 use Rattle.updater.specs.declared.run.ReplyAnswer.the-variants.{Next}
 use borrow.Author.Needs.{needs}
 use Rattle.updater.proofs.run.reply_done.Statement.{statement}
 use Rattle.updater.proofs.run.reply_done.Tie as tie
 
+is-as-asked-requires : tie.Need-is-as-asked-requires
+is-as-asked-requires c κs = search needs
+
 returns : tie.Need-returns
 unfolding ask
-returns c = rw (ne-eqb _ 0 (c .if1 .taken)) refl
-
-returns-2 : tie.Need-returns-2
-unfolding ask
-returns-2 c = rw (eq-eqb _ 0 (c .before .if1 .left), ne-eqb _ 0 (c .if2 .taken)) refl
+returns c = rw (sym (c .before .is-as-asked .ensures) ∙ not-true _ (c .if1 .taken)) refl
 
 after-order-requires : tie.Need-after-order-requires
 after-order-requires c κs = search needs
 
-returns-3 : tie.Need-returns-3
+returns-2 : tie.Need-returns-2
 unfolding ask
-returns-3 c = rw (eq-eqb _ 0 (c .before .before .if1 .left), eq-eqb _ 0 (c .before .if2 .left)) (ap Next (c .after-order .ensures))
+returns-2 c = rw (sym (c .before .before .is-as-asked .ensures) ∙ not-false _ (c .before .if1 .left)) (ap Next (c .after-order .ensures))
 
 pub reply-done-spec : {M : Type 1} → statement M
-reply-done-spec = tie.close (tie.spec returns returns-2 after-order-requires returns-3)
+reply-done-spec = tie.close (tie.spec is-as-asked-requires returns after-order-requires returns-2)

@@ -10,13 +10,19 @@ use Rattle.updater.proofs.run.State.order.Tie as tie
 fits-image-requires : tie.Need-fits-image-requires
 fits-image-requires c κs = search needs
 
+no-order-requires : tie.Need-no-order-requires
+no-order-requires c κs = search needs
+
 returns : tie.Need-returns
 unfolding orderAnswer ask
-returns c = rw (sym (c .before .fits-image .ensures) ∙ not-true _ (c .if1 .taken)) refl
+returns c = rw (sym (c .before .before .fits-image .ensures) ∙ not-true _ (c .before .if1 .taken)) (c .no-order .ensures)
+
+no-order-requires-2 : tie.Need-no-order-requires-2
+no-order-requires-2 c κs = search needs
 
 returns-2 : tie.Need-returns-2
 unfolding orderAnswer ask
-returns-2 c = rw (sym (c .before .before .before .fits-image .ensures) ∙ not-false _ (c .before .before .if1 .left), le-ltb _ 7 (c .if2 .taken)) refl
+returns-2 c = rw (sym (c .before .before .before .before .fits-image .ensures) ∙ not-false _ (c .before .before .before .if1 .left), le-ltb _ 7 (c .before .if2 .taken)) (c .no-order2 .ensures)
 
 current-operation-requires : tie.Need-current-operation-requires
 current-operation-requires c κs = (sym (c .before .before .before .fits-image .ensures) ∙ not-false _ (c .before .before .if1 .left), lt-ltb _ 7 (c .if2 .left))
@@ -32,10 +38,4 @@ returns-3 c =
 pub order-spec : {M : Type 1} → statement M
 order-spec =
     tie.close
-    (tie.spec
-    fits-image-requires
-    returns
-    returns-2
-    current-operation-requires
-    current-bytes-requires
-    returns-3)
+    (tie.spec fits-image-requires no-order-requires returns no-order-requires-2 returns-2 current-operation-requires current-bytes-requires returns-3)

@@ -1,0 +1,60 @@
+-- `builder::build` meets its contract.
+use mathlib.Core.Path.{sym, ap, _∙_}
+use lib.ListN.{length}
+use Rattle.builder.specs.Builder.{goldenAnswer, buildAnswer, outputOf}
+use Rattle.builder.specs.declared.BuildAnswer.{BuildAnswer}
+use Rattle.builder.specs.declared.BuildAnswer.the-variants.{Refused}
+use Rattle.chip.proofs.Laws.{onLayout, by-layout}
+use Rattle.builder.proofs.BuiltLaws.{build-loads}
+use borrow.Author.Needs.{needs}
+use Rattle.builder.proofs.build.Statement.{statement}
+use Rattle.builder.proofs.build.Tie as tie
+
+check-requires : tie.Need-check-requires
+check-requires c κs = search needs
+
+enum-told : tie.Need-enum-told
+enum-told c = search needs
+
+build-allowed-requires : tie.Need-build-allowed-requires
+build-allowed-requires c κs = sym (c .before .before .before .check .ensures) ∙ c .before .enum-told .given .1
+
+enum-known-allowed : tie.Need-enum-known-allowed
+enum-known-allowed c = search needs
+
+same-length : tie.Need-same-length
+same-length c = search needs
+
+returns : tie.Need-returns
+unfolding buildAnswer onLayout
+returns c =
+    let layout = c .before .before .before .before .before .before .before .before .before .args .layout in
+    let golden = c .before .before .before .before .before .before .before .before .before .args .golden .now in
+    let out = c .before .before .before .before .before .before .before .before .before .args .out .now in
+    let a = sym (c .before .before .before .before .before .before .check .ensures) ∙ c .before .before .before .before .enum-told .given .1 in
+    let e = rw a at (by-layout Refused (goldenAnswer layout golden (length out)) layout) in
+    let r = c .before .before .build-allowed .ensures .0 ∙ e in
+    let o = c .before .before .build-allowed .ensures .1 ∙ ap (λ (a : BuildAnswer). outputOf a layout golden out) e in
+    (r, (o, rw (r, o) (build-loads layout golden out)))
+
+returns-2 : tie.Need-returns-2
+unfolding buildAnswer onLayout outputOf
+returns-2 c =
+    let layout = c .before .before .before .before .before .before .args .layout in
+    let golden = c .before .before .before .before .before .before .args .golden .now in
+    let out = c .before .before .before .before .before .before .args .out .now in
+    let a = sym (c .before .before .before .check .ensures) ∙ c .before .allowed .given .1 in
+    let e = rw a at (by-layout Refused (goldenAnswer layout golden (length out)) layout) in
+    (e, (ap (λ (a : BuildAnswer). outputOf a layout golden out) e, rw (sym e) at (build-loads layout golden out)))
+
+pub build-spec : {M : Type 1} → statement M
+build-spec =
+    tie.close
+    (tie.spec
+    check-requires
+    enum-told
+    build-allowed-requires
+    enum-known-allowed
+    same-length
+    returns
+    returns-2)

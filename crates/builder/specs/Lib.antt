@@ -1,0 +1,2 @@
+-- What the contract of the builder says.
+pub mod Builder

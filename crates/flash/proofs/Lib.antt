@@ -1,0 +1,3 @@
+pub mod FlashLaws
+pub mod BitLaws
+pub mod Laws

@@ -1,0 +1,43 @@
+-- What an erase and a program do to a chip's bytes. Document 01, "The chip" and "A chip's life".
+use Prim.Native.Nat.{ℕ, _+_, _/_, _%_, _^_, _<_}
+use mathlib.Core.Path.{_≡_}
+use mathlib.Core.Logic.{_⊎_}
+use mathlib.Core.List.{List, [], _∷_, _++_}
+use lib.Bits.{bitAnd}
+use lib.Dec.{leb}
+use lib.ListN.{length, getD, take, drop, replicate}
+use Rattle.base.specs.Question.{ask}
+
+-- so many bytes FF: an erase sets its span to them
+abbrev pub erased : ℕ → List ℕ
+erased count = replicate count 0xFF
+
+-- so many of a chip's bytes, from a place on
+abbrev pub span : List ℕ → ℕ → ℕ → List ℕ
+span chip place count = take count (drop place chip)
+
+-- A chip whose bytes from a place on are these; outside their span every byte stays.
+abbrev pub over : List ℕ → ℕ → List ℕ → List ℕ
+over chip place bytes = take place chip ++ (bytes ++ drop (place + length bytes) chip)
+
+-- The same where a span of so many bytes lies within the chip; else the chip as it was.
+unfoldable pub within : List ℕ → ℕ → ℕ → List ℕ → List ℕ
+within chip place count bytes = ask (leb (place + count) (length chip)) chip (over chip place bytes)
+
+-- A program can only clear bits: an obeying chip clears exactly those that are 0 in its bytes.
+unfoldable pub cleared : List ℕ → List ℕ → List ℕ
+cleared (old ∷ more) (byte ∷ bytes) = bitAnd old byte ∷ cleared more bytes
+cleared [] bytes = []
+cleared (old ∷ more) [] = []
+
+-- What an obeying chip's span holds after a program; after an erase it is `erased`.
+abbrev pub afterProgram : List ℕ → ℕ → List ℕ → List ℕ
+afterProgram chip place bytes = cleared (span chip place (length bytes)) bytes
+
+-- bit n of a byte
+abbrev pub bit : ℕ → ℕ → ℕ
+bit n byte = byte / 2 ^ n % 2
+
+-- Each bit ends old or as an obeying chip would hold it, in any mixture.
+abbrev pub Mixed : List ℕ → List ℕ → List ℕ → Type 0
+Mixed old obeyed new = (i : ℕ) → i < length new → (n : ℕ) → n < 8 → (bit n (getD new i 0) ≡ bit n (getD old i 0)) ⊎ (bit n (getD new i 0) ≡ bit n (getD obeyed i 0))

@@ -1,0 +1,2 @@
+-- What an erase and a program do to the bytes of a flash chip.
+pub mod Flash
