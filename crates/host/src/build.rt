@@ -2,12 +2,12 @@
 ghost use mathlib.Core.Path.{_≡_};
 ghost use Rattle.chip.specs.Answers.{layoutOf};
 ghost use Rattle.host.specs.Calls.{buildOf, buildOutputOf};
-use crate::kind::SPI;
 use builder;
 use builder::BuildAnswer;
 use chip::kind::Spi;
 use results::build::TealsettleBuild;
 use results::build::build_result;
+use results::kind::is_spi;
 
 // Builds a chip at the front of a buffer. A refusal leaves the buffer as it was.
 #[no_mangle]
@@ -22,7 +22,7 @@ pub extern "C" fn tealsettle_build(
     ensures answer { λ r. ⌜ r ≡ buildOf kind (layoutOf length update area) (now (golden .entry)) (now (out .entry)) ⌝ }
     ensures output { λ r. ⌜ now (out .exit) ≡ buildOutputOf kind (layoutOf length update area) (now (golden .entry)) (now (out .entry)) ⌝ }
 {
-    if kind != SPI {
+    if !is_spi(kind) {
         return build_result(BuildAnswer::Refused {
             number: 1,
             place: 0,

@@ -1,11 +1,11 @@
 // A run on the bytes of a chip, cut after so many orders.
 ghost use mathlib.Core.Path.{_≡_};
 ghost use Rattle.host.specs.Calls.{benchOf, benchOutputOf};
-use crate::kind::SPI;
 use bench::BenchAnswer;
 use bench::cut_run;
 use results::cut::TealsettleBench;
 use results::cut::bench_result;
+use results::kind::is_spi;
 
 // A run on a chip, whose first k orders are obeyed and whose next is cut. A refusal leaves the chip as it
 // was.
@@ -22,7 +22,7 @@ pub extern "C" fn tealsettle_cut_run(
     ensures answer { λ r. ⌜ r ≡ benchOf kind (now (chip .entry)) update area (now (image .entry)) k (now (damage .entry)) ⌝ }
     ensures output { λ r. ⌜ now (chip .exit) ≡ benchOutputOf kind (now (chip .entry)) update area (now (image .entry)) k (now (damage .entry)) ⌝ }
 {
-    if kind != SPI {
+    if !is_spi(kind) {
         return bench_result(BenchAnswer::Refused {
             number: 1,
             place: 0,

@@ -5,6 +5,5 @@
 pub mod boot;
 pub mod build;
 pub mod cut;
-mod kind;
 pub mod run;
 pub mod text;

@@ -3,8 +3,8 @@ ghost use mathlib.Core.Path.{_≡_};
 ghost use Rattle.chip.specs.Answers.{layoutOf};
 ghost use Rattle.results.specs.Results.{stateOf};
 ghost use Rattle.host.specs.Calls.{startOf, totalOf, orderOf, replyOf, finishedOf};
-use crate::kind::SPI;
 use chip::kind::Spi;
+use results::kind::is_spi;
 use results::run::PROGRAM;
 use results::run::TealsettleFinished;
 use results::run::TealsettleOrder;
@@ -36,7 +36,7 @@ pub extern "C" fn tealsettle_start(
 ) -> TealsettleStart
     ensures { λ r. ⌜ r ≡ startOf kind (layoutOf length update area) (now (image .entry)) ⌝ }
 {
-    if kind != SPI {
+    if !is_spi(kind) {
         return start_result(StartAnswer::Refused {
             number: 1,
             place: 0,
@@ -56,7 +56,7 @@ pub extern "C" fn tealsettle_total(
 ) -> TealsettleTotal
     ensures { λ r. ⌜ r ≡ totalOf kind (layoutOf length update area) n ⌝ }
 {
-    if kind != SPI {
+    if !is_spi(kind) {
         return total_result(TotalAnswer::Refused {
             number: 1,
             place: 0,
@@ -80,7 +80,7 @@ pub extern "C" fn tealsettle_order(
 ) -> TealsettleOrder
     ensures { λ r. ⌜ r ≡ orderOf kind (stateOf length update area n phase index outcome) (now (image .entry)) ⌝ }
 {
-    if kind != SPI {
+    if !is_spi(kind) {
         let refused = Asked::Refused {
             number: 7,
             place: 0,
@@ -117,7 +117,7 @@ pub extern "C" fn tealsettle_reply(
     ensures { λ r. ⌜ r ≡ replyOf kind (stateOf length update area n phase index outcome) (now (image .entry)) said (now (bytes .entry)) ⌝ }
 {
     let state = state_of(length, update, area, n, phase, index, outcome);
-    if kind != SPI {
+    if !is_spi(kind) {
         return reply_result(ReplyAnswer::Refused {
             number: 7,
             place: 0,
@@ -141,7 +141,7 @@ pub extern "C" fn tealsettle_finished(
 ) -> TealsettleFinished
     ensures { λ r. ⌜ r ≡ finishedOf kind (stateOf length update area n phase index outcome) ⌝ }
 {
-    if kind != SPI {
+    if !is_spi(kind) {
         return finished_result(FinishedAnswer::Refused {
             number: 7,
             place: 0,

@@ -6,7 +6,7 @@ use mathlib.Core.List.{List}
 use lib.ListN.{length}
 use denote.Ref.{now}
 use borrow.Author.Needs.{needs}
-use borrow.Author.Tests.{eq-eqb, ne-eqb}
+use borrow.Author.Tests.{not-true, not-false}
 use Rattle.base.specs.Question.{ask}
 use Rattle.chip.specs.Layout.{page}
 use Rattle.flash.specs.Flash.{erased}
@@ -38,6 +38,9 @@ erased-beside state image h = go (fits state (length image)) (running state) h
     go true false h = refl
     go true true h = no-program (currentOrder spi state image) h
 
+is-spi-requires : tie.Need-is-spi-requires
+is-spi-requires c κs = search needs
+
 order-numbers-requires : tie.Need-order-numbers-requires
 order-numbers-requires c κs = search needs
 
@@ -46,7 +49,7 @@ order-result-requires c κs = search needs
 
 returns : tie.Need-returns
 unfolding ask
-returns c = rw (ne-eqb _ _ (c .before .before .if1 .taken)) (c .order-result .ensures ∙ c .before .order-numbers .ensures (erased page))
+returns c = rw (sym (c .before .before .before .is-spi .ensures) ∙ not-true _ (c .before .before .if1 .taken)) (c .order-result .ensures ∙ c .before .order-numbers .ensures (erased page))
 
 state-of-requires : tie.Need-state-of-requires
 state-of-requires c κs = search needs
@@ -63,14 +66,14 @@ order-result-requires-2 c κs = search needs
 returns-2 : tie.Need-returns-2
 unfolding ask
 returns-2 c =
-    let args = c .before .before .before .before .before .before .before .before .args in
+    let args = c .before .before .before .before .before .before .before .before .before .args in
     let image = now (args .image) in
     let state = stateOf (args .length) (args .update) (args .area) (args .n) (args .phase) (args .index) (args .outcome) in
     let told = c .before .before .before .before .order .ensures ∙ ap (λ given. orderAnswer spi given image) (c .before .before .before .before .before .state-of .ensures) in
     let numbers = c .before .before .before .order-numbers2 .ensures in
     let bytes = orderAnswer spi state image .bytes in
     let other : orderNumbers (orderAnswer spi state image) .operation ≡ 2 → ⊥ = λ two. c .before .if2 .taken (ap (λ given. given .operation) (numbers bytes ∙ ap (λ given. orderResult (given .asked) bytes) told) ∙ two) in
-    rw (eq-eqb _ _ (c .before .before .before .before .before .before .if1 .left))
+    rw (sym (c .before .before .before .before .before .before .before .is-spi .ensures) ∙ not-false _ (c .before .before .before .before .before .before .if1 .left))
     (c .order-result2 .ensures
     ∙ numbers (erased page)
     ∙ ap (λ given. orderResult (given .asked) (erased page)) told
@@ -82,17 +85,17 @@ order-result-requires-3 c κs = search needs
 returns-3 : tie.Need-returns-3
 unfolding ask
 returns-3 c =
-    let args = c .before .before .before .before .before .before .before .before .before .args in
+    let args = c .before .before .before .before .before .before .before .before .before .before .args in
     let image = now (args .image) in
     let state = stateOf (args .length) (args .update) (args .area) (args .n) (args .phase) (args .index) (args .outcome) in
     let told = c .before .before .before .before .before .order .ensures ∙ ap (λ given. orderAnswer spi given image) (c .before .before .before .before .before .before .state-of .ensures) in
-    rw (eq-eqb _ _ (c .before .before .before .before .before .before .before .if1 .left)) (c .order-result3 .ensures ∙ c .before .before .before .before .order-numbers2 .ensures _ ∙ ap orderNumbers told)
+    rw (sym (c .before .before .before .before .before .before .before .before .is-spi .ensures) ∙ not-false _ (c .before .before .before .before .before .before .before .if1 .left)) (c .order-result3 .ensures ∙ c .before .before .before .before .order-numbers2 .ensures _ ∙ ap orderNumbers told)
 
 pub tealsettle-order-spec : {M : Type 1} → statement M
 tealsettle-order-spec =
     tie.close
     (tie.spec
-    order-numbers-requires
+    is-spi-requires order-numbers-requires
     order-result-requires
     returns
     state-of-requires
