@@ -1,8 +1,8 @@
 #!/usr/bin/env bash
 # The tests: proves every listed crate from nothing, tries every must-fail edit, runs every program and
-# compares what it writes; then `bootreport` on each file of tests/report/, the C host's tests on the proved
-# library, the example, killed in every order, README's transcripts, and docs/PROOFS.md against the source. The last line is
-# 'N passed, 0 failed' only if all of that went well.
+# compares what it writes; then what each edit showed, `bootreport` on each file of tests/report/, README's transcripts, the
+# C host's tests on the proved library, the example, killed in every order, and docs/PROOFS.md against the source. The last
+# line is 'N passed, 0 failed' only if all of that went well.
 set -euo pipefail
 cd "$(dirname "$0")"
 
@@ -21,11 +21,13 @@ reports() {
     target/bin/bootreport <"$1" | cmp - "${1%.stdin}.stdout"
 }
 
+try tests/refusals
 for input in tests/report/*.stdin; do
     try reports "$input"
 done
 
-rt staticlib host >/dev/null
+# README's transcript makes the library for C, which all that follows links: to make it proves the crate `host` once more.
+try tests/transcripts
 mkdir -p target/tests/host
 for source in tests/host/*.c; do
     name=$(basename "$source" .c)
@@ -33,7 +35,6 @@ for source in tests/host/*.c; do
     try "target/tests/host/$name"
 done
 try tests/example/run
-try tests/transcripts
 try python3 docs/proofs.py --check
 echo "$passed passed, $failed failed"
 [ "$failed" -eq 0 ]

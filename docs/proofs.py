@@ -11,10 +11,10 @@ A generated part stands between two comments, `<!-- WHAT -->` and `<!-- end -->`
     laws                              the laws that each crate offers to those above
     all edits                         every must-fail edit of the repository
 
-Checked: every public function of a library crate has an entry, an `ensures` and no `requires`; an entry has two
-wrong answers and a must-fail edit; every generated part is what it would be now; every [`name`](file) names
-something that the file declares; every edit named in the text exists; and every relative link of README.md
-and docs/*.md leads to a file or to a heading of its page.
+Checked: every public function of a library crate has an `ensures`, and every public call an entry and no `requires`; an
+entry has two wrong answers and two must-fail edits; every generated part is what it would be now; every
+[`name`](file) names something that the file declares; every edit named in the text exists; and every relative
+link of README.md and docs/*.md leads to a file or to a heading of its page.
 """
 import re
 import sys
@@ -25,6 +25,12 @@ from typing import NamedTuple
 ROOT = Path(__file__).resolve().parent.parent
 PAGE = ROOT / 'docs' / 'PROOFS.md'
 WIDTH = 110
+
+# What is public only so that a crate above can use it: whole crates, modules and functions. These are no calls of the
+# library: they may ask something of their caller, and the page has no entry for them.
+INTERNAL = (
+    'base', 'framing', 'packets', 'scanner', 'fastpath', 'writes::reading', 'writes::cursor::Cursor::new',
+    'writes::cursor::nth_from', 'digits', 'mcsline', 'comparison', 'updater::orders', 'fields', 'reportlines', 'results')
 
 # A function's header ends where its body opens, on a line of its own.
 PUBLIC = re.compile(r'^( *)pub (?:extern "C" )?fn (\w+)')
@@ -110,9 +116,17 @@ def header_from(lines, at, indent):
     return textwrap.dedent('\n'.join(lines[at:last]))
 
 
-def public_calls():
+def is_internal(call):
+    return any(f'{call.name}::'.startswith(f'{name}::') for name in INTERNAL)
+
+
+def public_functions():
     files = [file for crate in library_crates() for file in sorted((crate / 'src').rglob('*.rt'))]
-    return {call.name: call for file in files for call in calls_of(file)}
+    return [call for file in files for call in calls_of(file)]
+
+
+def public_calls():
+    return {call.name: call for call in public_functions() if not is_internal(call)}
 
 
 def all_edits():
@@ -260,12 +274,12 @@ def rewritten(text, calls, edits, wrong, stale):
 
 # ---- the checks
 
-def check_contracts(calls):
-    for call in calls.values():
+def check_contracts():
+    for call in public_functions():
         where = f'{shown(call.file)}: {call.name}'
         if not re.search(r'^ *ensures\b', call.contract, re.M):
             yield f'{where} has no `ensures`'
-        if re.search(r'^ *requires\b', call.contract, re.M):
+        if re.search(r'^ *requires\b', call.contract, re.M) and not is_internal(call):
             yield f'{where} has a `requires`'
 
 
@@ -284,8 +298,8 @@ def check_entries(text, calls):
         by_hand = re.sub(r'^<!-- edits.*?^<!-- end -->$', '', body, flags=re.M | re.S)
         if len(re.findall(r'^- ', by_hand, re.M)) < 2:
             yield f'{shown(PAGE)}: {name}: fewer than two wrong answers'
-        if not re.search(r'^<!-- edits \S+', body, re.M):
-            yield f'{shown(PAGE)}: {name}: no must-fail edit'
+        if len(re.findall(r'\S+/\S+', ' '.join(re.findall(r'^<!-- edits (.*?) -->$', body, re.M)))) < 2:
+            yield f'{shown(PAGE)}: {name}: fewer than two must-fail edits'
 
 
 def block_of(lines, name):
@@ -357,7 +371,7 @@ def main():
         problems += stale
     else:
         PAGE.write_text(text, encoding='utf-8')
-    problems += check_contracts(calls)
+    problems += check_contracts()
     problems += check_entries(text, calls)
     problems += check_edit_names(text, edits)
     for page in (ROOT / 'README.md', *sorted((ROOT / 'docs').glob('*.md'))):

@@ -8,7 +8,7 @@ use native.Mathlib.Numerals.{add-one}
 use borrow.Author.Needs.{needs}
 use borrow.Author.Tests.{not-true, not-false, leb-true}
 use lib.Bits.{bitAnd}
-use lib.ListN.{length, getD}
+use lib.ListN.{length, getD, set}
 use lib.Seq.{paste, paste-zero, paste-suc, length-paste, drop-paste, getD-drop}
 use Rattle.base.specs.Question.{ask}
 use Rattle.flash.specs.Flash.{span, within, afterProgram}
@@ -93,7 +93,10 @@ loop-again c =
     let i = c .before .before .before .loop .i in
     let f = fits (c .before .before .before .before) in
     let n = programmed-length chip place bytes f in
-    (omega arith, rw (c .before .before .before .loop .inv .1, next chip place bytes i f (omega arith), add-one) (paste-suc chip place (afterProgram chip place bytes) i 0 (omega arith) (omega arith)))
+    (omega arith,
+        rw (c .before .before .before .loop .inv .1, add-one)
+        (ap (λ (byte : ℕ). set (paste chip place (afterProgram chip place bytes) i) (place + i) byte) (next chip place bytes i f (omega arith))
+        ∙ paste-suc chip place (afterProgram chip place bytes) i 0 (omega arith) (omega arith)))
 
 same-length : tie.Need-same-length Inv-loop μ-loop
 same-length c = kept (c .before)

@@ -21,8 +21,8 @@ wbstar-is c =
     let w = c .before .before .before .before .before .args .w in
     let e : w .at + 4 * w .left - 4 ≡ w .at + 4 * (w .left - 1) = omega (arith, c .before .before .before .before .before .pre) in
     ⊎-elim
-    (λ v. rw (eq-eqb _ _ (v .0 .taken)) (v .2 ∙ v .1 .ensures ∙ ap (λ (n : ℕ). getD (words (drop n s)) 0 0) e ∙ sym (word-after s (w .at) (w .left - 1))))
-    (λ v. rw (ne-eqb _ _ (v .0 .left)) (v .1))
+    (λ v. rw (eq-eqb (w .register) WBSTAR (v .0 .taken)) (v .2 ∙ v .1 .ensures ∙ ap (λ (n : ℕ). getD (words (drop n s)) 0 0) e ∙ sym (word-after s (w .at) (w .left - 1))))
+    (λ v. rw (ne-eqb (w .register) WBSTAR (v .0 .left)) (v .1))
     (c .if1 .came)
 
 mul-at : tie.Need-mul-at
