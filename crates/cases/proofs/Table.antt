@@ -16,8 +16,9 @@ use Rattle.chip.specs.Answers.{layoutAnswer, switchCase, switchAnswer}
 use Rattle.updater.specs.Run.{byPhase, count, before as runBefore}
 use Rattle.updater.specs.Orders.{inPhase, ordersBefore}
 use Rattle.updater.specs.Answers.{totalAnswer}
-use Rattle.mcs.specs.Text.{digits, total}
-use Rattle.mcs.specs.Reading.{placeIn, digitOf, before, linesOf, isEnding, onto, bySpelled, spelledBy, lineSpells, byType, typed, parsed, byParsed, follows, isEmpty, readFrom}
+use Rattle.digits.specs.Digit.{digits, total, placeIn, digitOf}
+use Rattle.mcsline.specs.Line.{isEnding, onto, bySpelled, spelledBy, lineSpells, byType, typed, parsed, byParsed}
+use Rattle.mcs.specs.Reading.{before, linesOf, follows, isEmpty, readFrom}
 use Rattle.mcs.specs.Answers.{answerOf, filledBy}
 use Rattle.cases.specs.Cases.{imageSays, textSays, layoutSays, switchSays, totalSays, All, jumping, rows}
 

@@ -11,7 +11,7 @@ use lib.Seq.{take-at}
 use Rattle.base.specs.Question.{ask}
 use Rattle.mcs.specs.Reading.{Reading, Holds, Refused, readText}
 use Rattle.mcs.specs.Answers.{answerOf, filledBy, readAnswer, readOutput}
-use Rattle.mcs.specs.Place.{sizeOf, Fits}
+use Rattle.mcs.specs.Passes.{sizeOf, Fits}
 use Rattle.mcs.specs.declared.reader.ReadAnswer.the-variants.{Read, Refused as ReadRefused}
 use Rattle.mcs.proofs.FileLaws.{holds-room}
 use Rattle.mcs.specs.declared.reader.Size.the-variants.{Total, Refused as SizeRefused}

@@ -8,14 +8,16 @@ use borrow.Author.Tests.{eqb-true, eq-eqb, le-leb, leb-true}
 use lib.Dec.{eqb}
 use lib.ListN.{length, length-append}
 use Rattle.base.proofs.Laws.{false-true}
-use Rattle.mcs.specs.Text.{LF, CR, COLON, hex, Ending, Lf, CrLf, endingText, lineText, Record, Data, Upper, End, bodyOf, sumOf, pairsOf, Line, Row, recordText, fileText, AllBytes, Fit, FileFrom, FileOf}
 use Rattle.base.specs.Question.{ask}
-use Rattle.mcs.specs.Reading.{Parsed, Is, Refuses, parsed, follows, before, linesOf, isEmpty, Holds, readFrom, readText}
-use Rattle.mcs.proofs.LineLaws.{lines-none, lines-lf, lines-on, before-line}
+use Rattle.digits.specs.Digit.{hex}
+use Rattle.mcsline.specs.Record.{LF, CR, COLON, Ending, Lf, CrLf, endingText, lineText, Record, Data, Upper, End, pairsOf, Line, Row, recordText, AllBytes, Fit}
+use Rattle.mcsline.specs.Line.{Parsed, Is, Refuses, parsed}
+use Rattle.mcsline.proofs.Laws.{not-lf, pairs-bytes, text-parsed, parsed-text, record-room}
+use Rattle.mcs.specs.Text.{fileText, FileFrom, FileOf}
+use Rattle.mcs.specs.Reading.{follows, before, linesOf, isEmpty, Holds, readFrom, readText}
+use Rattle.mcs.proofs.LinesLaws.{lines-none, lines-lf, lines-on, before-line}
 use Rattle.mcs.proofs.ReadingLaws.{read-none, read-refused, read-apart, read-data, read-upper, read-end, read-more, none-none, none-some}
 use Rattle.mcs.proofs.FillLaws.{refused-holds}
-use Rattle.mcs.proofs.TextLaws.{not-lf}
-use Rattle.mcs.proofs.RecordLaws.{pairs-bytes, text-parsed, parsed-text}
 
 -- A text's lines and the text.
 
@@ -162,20 +164,6 @@ holds-file text image e =
     (w .0, (sym (joined-lines text) ∙ w .1 .0, w .1 .1))
 
 -- ROOM: a text has two characters and more for each byte of the image it holds.
-
-hex-long : (pairs : List ℕ) → length (hex pairs) ≡ 2 * length pairs
-unfolding hex
-hex-long [] = refl
-hex-long (p ∷ pairs) = let h = hex-long pairs in omega arith
-
-record-room : (address : ℕ) (bytes : List ℕ) (e : Ending) → 2 * length bytes ≤ length (recordText (Row (Data address bytes) e))
-unfolding recordText lineText pairsOf bodyOf
-record-room address bytes e =
-    let pairs = pairsOf (Data address bytes) in
-    let a : length pairs ≡ length (bodyOf (Data address bytes)) + 1 = length-append (bodyOf (Data address bytes)) (sumOf (bodyOf (Data address bytes)) ∷ []) in
-    let b = hex-long pairs in
-    let c = length-append (COLON ∷ hex pairs) (endingText e) in
-    omega arith
 
 file-room : (lines : List Line) (half : ℕ) (image whole : List ℕ) → FileFrom half image lines whole → 2 * length whole ≤ 2 * length image + length (fileText lines)
 unfolding FileFrom fileText

@@ -8,15 +8,18 @@ use borrow.Author.Tests.{ltb-true, ltb-false, le-leb}
 use lib.Dec.{ltb}
 use lib.ListN.{length, drop, length-append, length-drop}
 use lib.Seq.{paste, take-at, take-length, drop-append-add, drop-drop}
-use Rattle.mcs.specs.Text.{Data, Upper, End}
 use Rattle.base.specs.Question.{ask}
-use Rattle.mcs.specs.Reading.{Parsed, Is, Refuses, parsed, follows, isEmpty, Reading, Holds, Refused, readFrom, readText}
+use Rattle.digits.specs.Pairs.{ArePairs, pairsAt}
+use Rattle.mcsline.specs.Record.{Data, Upper, End}
+use Rattle.mcsline.specs.Line.{Parsed, Is, Refuses, parsed}
+use Rattle.mcsline.specs.Place.{lineAt, Sound, asLine}
+use Rattle.mcsline.specs.declared.line.Line.{Line}
+use Rattle.mcsline.specs.declared.line.Line.the-variants.{Data as DataLine, Upper as UpperLine, End as EndLine, Refused as LineRefused}
+use Rattle.mcsline.proofs.Laws.{after, line-long, line-upper, line-end, line-refused, DataAt, told-bytes, told-data}
+use Rattle.mcs.specs.Reading.{follows, isEmpty, Reading, Holds, Refused, readFrom, readText}
 use Rattle.mcs.specs.Answers.{filledBy}
-use Rattle.mcs.specs.Place.{ArePairs, pairsAt, lineAt, Sound, asLine, Fits}
-use Rattle.mcs.specs.declared.line.Line.{Line}
-use Rattle.mcs.specs.declared.line.Line.the-variants.{Data as DataLine, Upper as UpperLine, End as EndLine, Refused as LineRefused}
-use Rattle.mcs.proofs.LineLaws.{line-long}
-use Rattle.mcs.proofs.ReadingLaws.{readAt, after, read-none, read-refused, read-apart, read-data, read-upper, read-end, read-more, at-none, at-refused, at-apart, at-data, at-upper, at-end, at-more, line-upper, line-end, line-refused, DataAt, told-bytes, told-data}
+use Rattle.mcs.specs.Passes.{Fits}
+use Rattle.mcs.proofs.ReadingLaws.{readAt, read-none, read-refused, read-apart, read-data, read-upper, read-end, read-more, at-none, at-refused, at-apart, at-data, at-upper, at-end, at-more}
 
 pub refused-holds : {number place : ℕ} {image : List ℕ} → Refused number place ≡ Holds image → ⊥
 refused-holds e = let z : _≡_ {A = ℕ} 0 1 = cc in omega arith

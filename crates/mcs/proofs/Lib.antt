@@ -1,11 +1,6 @@
-pub mod TableLaws
-pub mod LineLaws
-pub mod PairLaws
-pub mod ShapeLaws
+pub mod LinesLaws
 pub mod ReadingLaws
 pub mod FillLaws
 pub mod AnswerLaws
-pub mod TextLaws
-pub mod RecordLaws
 pub mod FileLaws
 pub mod Laws

@@ -1,71 +1,9 @@
--- The text of a record and of a file, from what they hold. Document 01, "MCS text".
-use Prim.Native.Nat.{ℕ, _+_, _-_, _*_, _/_, _%_, _<_, _≤_}
+-- The text of a file, from what it holds. Document 01, "MCS text".
+use Prim.Native.Nat.{ℕ, _+_, _*_, _≤_}
 use mathlib.Core.Path.{_≡_}
 use mathlib.Core.List.{List, [], _∷_, _++_}
-use lib.ListN.{length, getD}
-
-abbrev pub LF : ℕ
-LF = 0x0A
-
-abbrev pub CR : ℕ
-CR = 0x0D
-
-abbrev pub COLON : ℕ
-COLON = 0x3A
-
--- the capital hexadecimal digits: 0 to 9, A to F
-unfoldable pub digits : List ℕ
-digits =
-    0x30 ∷ 0x31 ∷ 0x32 ∷ 0x33 ∷ 0x34 ∷ 0x35 ∷ 0x36 ∷ 0x37 ∷ 0x38 ∷ 0x39
-    ∷ 0x41 ∷ 0x42 ∷ 0x43 ∷ 0x44 ∷ 0x45 ∷ 0x46 ∷ []
-
--- bytes as pairs of digits
-unfoldable pub hex : List ℕ → List ℕ
-hex [] = []
-hex (byte ∷ bytes) = getD digits (byte / 16) 0 ∷ getD digits (byte % 16) 0 ∷ hex bytes
-
--- A line ends in LF or CR LF.
-pub data Ending : Type 0 where
-  Lf : Ending
-  CrLf : Ending
-
-unfoldable pub endingText : Ending → List ℕ
-endingText Lf = LF ∷ []
-endingText CrLf = CR ∷ LF ∷ []
-
--- A line is a colon and capital hexadecimal pairs.
-unfoldable pub lineText : List ℕ → Ending → List ℕ
-lineText pairs ending = COLON ∷ hex pairs ++ endingText ending
-
--- Records: type 00 has an address and data, type 04 the upper half of later addresses, type 01 is the end record.
-pub data Record : Type 0 where
-  Data : (address : ℕ) → (bytes : List ℕ) → Record
-  Upper : (half : ℕ) → Record
-  End : Record
-
--- a record's pairs but for the sum: count, address (2 bytes), type, data
-unfoldable pub bodyOf : Record → List ℕ
-bodyOf (Data address bytes) = length bytes ∷ address / 256 ∷ address % 256 ∷ 0x00 ∷ bytes
-bodyOf (Upper half) = 2 ∷ 0 ∷ 0 ∷ 0x04 ∷ half / 256 ∷ half % 256 ∷ []
-bodyOf End = 0 ∷ 0 ∷ 0 ∷ 0x01 ∷ []
-
-unfoldable pub total : List ℕ → ℕ
-total [] = 0
-total (byte ∷ bytes) = byte + total bytes
-
--- All its pairs add to 0 modulo 256: the sum is what is missing.
-unfoldable pub sumOf : List ℕ → ℕ
-sumOf body = (256 - total body % 256) % 256
-
-unfoldable pub pairsOf : Record → List ℕ
-pairsOf r = bodyOf r ++ sumOf (bodyOf r) ∷ []
-
--- a record's line
-pub data Line : Type 0 where
-  Row : Record → Ending → Line
-
-unfoldable pub recordText : Line → List ℕ
-recordText (Row r ending) = lineText (pairsOf r) ending
+use lib.ListN.{length}
+use Rattle.mcsline.specs.Record.{Data, Upper, End, Line, Row, recordText, Fit}
 
 -- a file's text: its lines, one after the other
 unfoldable pub fileText : List Line → List ℕ
@@ -73,16 +11,6 @@ fileText [] = []
 fileText (line ∷ lines) = recordText line ++ fileText lines
 
 -- Which lists of lines are files, and of which image.
-
-unfoldable pub AllBytes : List ℕ → Type 0
-AllBytes [] = Unit {0}
-AllBytes (byte ∷ bytes) = (byte < 256) × AllBytes bytes
-
--- Data records have 1 to 255 bytes; an address and an upper half have two.
-unfoldable pub Fit : Record → Type 0
-Fit (Data address bytes) = (address < 65536) × (1 ≤ length bytes) × (length bytes ≤ 255) × AllBytes bytes
-Fit (Upper half) = half < 65536
-Fit End = Unit {0}
 
 -- The lines after an upper half and the image so far: data records start where the last ended, none goes past a multiple of 65,536, and the last line is the end record.
 unfoldable pub FileFrom : ℕ → List ℕ → List Line → List ℕ → Type 0

@@ -1,16 +1,16 @@
 // Reading a whole text, in two passes: the first asks every question, the second writes the image.
 ghost use mathlib.Core.Path.{_≡_};
-ghost use Prim.Native.Nat.{_+_, _*_, _^_, _<_, _≤_};
+ghost use Prim.Native.Nat.{_^_, _<_};
 ghost use lib.ListN.{length};
-ghost use lib.Seq.{paste};
+ghost use Rattle.digits.specs.Pairs.{DigitTable};
 ghost use Rattle.mcs.specs.Reading.{follows, readText};
 ghost use Rattle.mcs.specs.Answers.{readAnswer, readOutput};
-ghost use Rattle.mcs.specs.Place.{DigitTable, ArePairs, pairsAt, sizeOf, Fits};
-use crate::digit::pair;
-use crate::line::Line;
-use crate::line::parse;
-use crate::line::parse_sound;
-use crate::table::VALUES;
+ghost use Rattle.mcs.specs.Passes.{sizeOf, Fits};
+use digits::bytes::decode;
+use digits::table::digit_values;
+use mcsline::line::Line;
+use mcsline::line::parse;
+use mcsline::line::parse_sound;
 
 // How many bytes the text holds, or a refusal. `length` bytes stand at the front of the buffer.
 pub enum ReadAnswer {
@@ -88,18 +88,6 @@ fn size_of(values: &[u8], text: &[u8]) -> Size
     }
 }
 
-// The bytes that `count` pairs from `from` on make, at `to`.
-fn decode(values: &[u8], text: &[u8], from: usize, out: &mut [u8], to: usize, count: usize)
-    requires { ⌜ (from + 2 * count ≤ length (now text)) × (to + count ≤ length (now out)) × ArePairs (now text) from count × DigitTable (now values) ⌝ }
-    ensures { λ r. ⌜ now (out .exit) ≡ paste (now (out .entry)) to (pairsAt (now (text .entry)) from count) count ⌝ }
-{
-    let mut i = 0;
-    while i < count {
-        out[to + i] = (pair(values, text, from + 2 * i) % 256) as u8;
-        i += 1;
-    }
-}
-
 // The second pass, over a text that holds an image for which there is room.
 fn fill(values: &[u8], text: &[u8], out: &mut [u8])
     requires { ⌜ Fits (readText (now text)) (length (now out)) × DigitTable (now values) ⌝ }
@@ -159,6 +147,6 @@ pub fn read(text: &[u8], out: &mut [u8]) -> ReadAnswer
     ensures answer { λ r. ⌜ r ≡ readAnswer (now (text .entry)) (now (out .entry)) ⌝ }
     ensures output { λ r. ⌜ now (out .exit) ≡ readOutput (now (text .entry)) (now (out .entry)) ⌝ }
 {
-    let values = VALUES;
+    let values = digit_values();
     read_by(&values, text, out)
 }

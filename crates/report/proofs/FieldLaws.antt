@@ -9,7 +9,7 @@ use borrow.Author.Tests.{lt-ltb, le-ltb, ltb-true, ltb-false}
 use lib.Dec.{ltb, lit≤}
 use lib.ListN.{length, getD, set, length-append, List·getD-append}
 use lib.Seq.{paste, getD-append-add}
-use Rattle.mcs.specs.Text.{digits}
+use Rattle.digits.specs.Digit.{digits}
 use Rattle.report.specs.Lines.{hexadecimal, decimalIn, decimal}
 use Rattle.report.proofs.PutLaws.{paste-one, Put, put-byte}
 

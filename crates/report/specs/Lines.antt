@@ -6,7 +6,7 @@ use mathlib.Core.Bool.{Bool, true, false}
 use mathlib.Core.List.{List, [], _∷_, _++_}
 use lib.Dec.{ltb}
 use lib.ListN.{getD}
-use Rattle.mcs.specs.Text.{digits}
+use Rattle.digits.specs.Digit.{digits}
 use Rattle.bootreader.specs.Reading.{readChip, listed}
 use Rattle.bootreader.specs.declared.reader.Outcome.{Outcome}
 use Rattle.bootreader.specs.declared.reader.Outcome.the-variants.{Loaded, Iprog, Stuck}

@@ -4,7 +4,7 @@ ghost use mathlib.Core.Path.{_≡_};
 ghost use Prim.Native.Nat.{_+_, _<_, _≤_};
 ghost use lib.ListN.{length, getD};
 ghost use lib.Seq.{paste};
-ghost use Rattle.mcs.specs.Text.{digits};
+ghost use Rattle.digits.specs.Digit.{digits};
 ghost use Rattle.report.specs.Lines.{hexadecimal, decimal};
 
 // The character of a hexadecimal digit.

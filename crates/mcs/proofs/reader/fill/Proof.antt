@@ -1,7 +1,7 @@
 -- `reader::fill` meets its contract. The loop's invariant: the lines so far are written, and the text reads as from here on.
-use Rattle.mcs.proofs.ReadingLaws.{told-long}
+use Rattle.mcsline.proofs.Laws.{told-long}
 use Rattle.mcs.proofs.FillLaws.{Filled, fill-start, fill-length, fill-none, fill-sound, fill-refused, fill-upper, fill-end, fill-pairs, fill-data, fill-fits}
-use Rattle.mcs.specs.Place.{Fits}
+use Rattle.mcs.specs.Passes.{Fits}
 use Rattle.mcs.specs.Reading.{readText}
 use lib.ListN.{length}
 use borrow.Author.Needs.{needs}

@@ -1,6 +1,7 @@
 -- `reader::size_of` meets its contract. The loop's invariant: the lines so far hold an image of `next` bytes, and the text reads as from here on.
-use Rattle.mcs.proofs.ReadingLaws.{Reached, at-none, pass-refused, pass-upper, pass-end, pass-more, pass-apart, pass-data, told-long}
-use Rattle.mcs.specs.Place.{sizeOf}
+use Rattle.mcsline.proofs.Laws.{told-long}
+use Rattle.mcs.proofs.ReadingLaws.{Reached, at-none, pass-refused, pass-upper, pass-end, pass-more, pass-apart, pass-data}
+use Rattle.mcs.specs.Passes.{sizeOf}
 use Rattle.mcs.specs.Reading.{Holds, readText}
 use lib.ListN.{length}
 use borrow.Author.Tests.{not-true, not-false}

@@ -1,0 +1,4 @@
+pub mod TableLaws
+pub mod DigitLaws
+pub mod PairLaws
+pub mod Laws

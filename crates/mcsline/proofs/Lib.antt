@@ -1,0 +1,7 @@
+pub mod LineLaws
+pub mod TypeLaws
+pub mod ShapeLaws
+pub mod DataLaws
+pub mod TextLaws
+pub mod RecordLaws
+pub mod Laws
