@@ -5,9 +5,10 @@ use mathlib.Core.Bool.{Bool, true, false}
 use mathlib.Core.List.{List, _++_}
 use native.Mathlib.Nat.{zero-add}
 use native.Mathlib.Omega.{arith}
-use borrow.Author.Tests.{le-leb, lt-leb}
+use borrow.Author.Tests.{leb-true, leb-false, le-leb, lt-leb}
 use lib.ListN.{length, drop, length-append}
-use lib.Seq.{take-all}
+use lib.Dec.{leb}
+use lib.Seq.{paste, take-all}
 use Rattle.base.specs.Question.{ask}
 use Rattle.bootreader.specs.Reading.{readChip, listed}
 use Rattle.writes.specs.Cursor.{rest}
@@ -20,11 +21,13 @@ use Rattle.packets.specs.declared.trace.Write.{Write}
 use Rattle.writes.specs.declared.cursor.Cursor.{Cursor}
 use Rattle.writes.specs.declared.cursor.Listing.the-variants.{Open, Refused as ListingRefused}
 use Rattle.bootreader.proofs.Laws.{opened-rest, listed-length}
-use Rattle.report.specs.Lines.{loadedLine, writeLines, endLine, stuckLine, reportOf, chipReport}
+use Rattle.fields.specs.Fields.{decimal}
+use Rattle.reportlines.specs.Lines.{loadedLine, writeLines, endLine, stuckLine}
+use Rattle.report.specs.Chips.{reportOf, chipReport}
 use Rattle.report.specs.Answers.{written, filledBy, chipAnswer, chipOutput}
 use Rattle.report.specs.declared.refusal.ReportAnswer.the-variants.{Written, Refused}
-use Rattle.report.proofs.PutLaws.{Put}
-use Rattle.report.proofs.LineLaws.{length-loaded, length-writes}
+use Rattle.fields.proofs.Laws.{Put}
+use Rattle.reportlines.proofs.Laws.{length-loaded, length-writes, length-end}
 
 -- A text that does not fit is refused, and the buffer stays as it was.
 pub no-room : (text buffer : List ℕ) → length buffer < length text → (written text (length buffer) ≡ Refused 19 0) × (filledBy text buffer ≡ buffer)
@@ -120,10 +123,11 @@ module _ (chip : List ℕ) (sync end writes : ℕ) (jumped : Bool) (boots : Boot
       ∙ omega (arith, length-append (loadedLine jumped ++ writeLines ws) (endLine end writes), length-append (loadedLine jumped) (writeLines ws), length-loaded jumped, length-writes ws, count)
 
   -- Without room for it the call refuses.
-  pub loaded-small : (buffer : List ℕ) → length buffer < 14 + 27 * writes + length (endLine end writes) → (chipAnswer chip (length buffer) ≡ Refused 19 0) × (chipOutput chip buffer ≡ buffer)
+  pub loaded-small : (buffer : List ℕ) → leb (14 + 27 * writes + (21 + length (decimal writes))) (length buffer) ≡ false → (chipAnswer chip (length buffer) ≡ Refused 19 0) × (chipOutput chip buffer ≡ buffer)
   loaded-small buffer h =
       let a = passed chip buffer allowed in
-      let n = no-room (chipReport chip) buffer (omega (arith, long)) in
+      let less : length buffer < 14 + 27 * writes + (21 + length (decimal writes)) = leb-false _ (length buffer) h in
+      let n = no-room (chipReport chip) buffer (omega (arith, long, length-end end writes)) in
       (a .0 ∙ n .0, a .1 ∙ n .1)
 
   module _ (cursor : Cursor) (opened : chipListing chip ≡ Open cursor) where
@@ -135,16 +139,27 @@ module _ (chip : List ℕ) (sync end writes : ℕ) (jumped : Bool) (boots : Boot
         let same : cursorOf (readChip chip) ≡ cursor = cc in
         ap (λ (k : Cursor). rest chip k) (sym same) ∙ opened-rest 1 false chip 0 (omega arith) ∙ ap (λ (o : Outcome). listed chip o) reads
 
-    -- as many as were counted.
-    pub loaded-count : length (rest chip cursor) ≡ writes
-    loaded-count = ap (λ (ws : List Write). length ws) given ∙ count
+    -- as many as were counted. So there is room for its lines where there is room for so many.
+    pub loaded-room : (buffer : List ℕ) → leb (14 + 27 * writes + (21 + length (decimal writes))) (length buffer) ≡ true → 14 + 27 * length (rest chip cursor) + length (endLine end writes) ≤ length buffer
+    loaded-room buffer h =
+        let n : length (rest chip cursor) ≡ writes = ap (λ (ws : List Write). length ws) given ∙ count in
+        let enough : 14 + 27 * writes + (21 + length (decimal writes)) ≤ length buffer = leb-true _ (length buffer) h in
+        omega (arith, length-end end writes)
 
-    -- With the parts put one after the other the call is done.
-    pub loaded-put : {buffer after : List ℕ} {count : ℕ} → Put buffer 0 (loadedLine jumped ++ writeLines (rest chip cursor) ++ endLine end writes) count after →
-        (chipAnswer chip (length buffer) ≡ Written count) × (chipOutput chip buffer ≡ after)
-    loaded-put {buffer} {after} {count} p =
+    -- With all of it put at the front the call is done.
+    pub loaded-put : (buffer after : List ℕ) (size : ℕ) → leb (14 + 27 * writes + (21 + length (decimal writes))) (length buffer) ≡ true →
+        size ≡ 14 + 27 * length (rest chip cursor) + length (endLine end writes) →
+        after ≡ paste buffer 0 (loadedLine jumped ++ writeLines (rest chip cursor) ++ endLine end writes) (14 + 27 * length (rest chip cursor) + length (endLine end writes)) →
+        (chipAnswer chip (length buffer) ≡ Written size) × (chipOutput chip buffer ≡ after)
+    loaded-put buffer after size h e is =
         let a = passed chip buffer allowed in
+        let n : length (rest chip cursor) ≡ writes = ap (λ (ws : List Write). length ws) given ∙ count in
         let text : loadedLine jumped ++ writeLines (rest chip cursor) ++ endLine end writes ≡ chipReport chip =
         ap (λ (ws : List Write). loadedLine jumped ++ writeLines ws ++ endLine end writes) given ∙ sym parts in
-        let n = put-answer (subst (λ (l : List ℕ). Put buffer 0 l count after) text p) in
-        (a .0 ∙ n .0, a .1 ∙ n .1)
+        let put : Put buffer 0 (chipReport chip) size after = record {
+          long = long ∙ omega arith;
+          room = omega (arith, loaded-room buffer h);
+          is = is ∙ ap₂ (λ (l : List ℕ) (k : ℕ). paste buffer 0 l k) text (sym e);
+        } in
+        let answer = put-answer put in
+        (a .0 ∙ answer .0, a .1 ∙ answer .1)

@@ -1,20 +1,22 @@
 -- Laws of an image file's report: what each answer on the way to it makes of it.
 use Prim.Native.Nat.{ℕ, _+_, _<_, _≤_}
 use mathlib.Core.Path.{_≡_, refl, sym, ap, _∙_}
-use mathlib.Core.Bool.{Bool, true, false}
-use mathlib.Core.List.{List, append-nil}
+use mathlib.Core.Bool.{true}
+use mathlib.Core.List.{List, [], append-nil}
 use native.Mathlib.Omega.{arith}
 use borrow.Author.Tests.{le-leb, lt-leb}
 use lib.ListN.{length, drop, drop-of-length-le}
 use Rattle.base.specs.Question.{ask}
 use Rattle.bootreader.specs.Answers.{lengthAllowed}
 use Rattle.mcs.specs.Reading.{Holds, Refused, readText}
+use Rattle.chip.specs.declared.kind.Layout.{Layout}
 use Rattle.builder.specs.Builder.{builtChip, buildAnswer, outputOf, buildOutput}
 use Rattle.builder.specs.declared.BuildAnswer.{BuildAnswer}
 use Rattle.builder.specs.declared.BuildAnswer.the-variants.{Built, Refused as NotBuilt}
 use Rattle.base.proofs.Laws.{asked-yes}
 use Rattle.builder.proofs.Laws.{golden-room, built-length}
-use Rattle.report.specs.Lines.{refusedLine, chipReport}
+use Rattle.reportlines.specs.Lines.{refusedLine}
+use Rattle.report.specs.Chips.{chipReport}
 use Rattle.report.specs.Files.{reportLayout, onBuilt, builtReport, onReading, fileReport}
 use Rattle.report.specs.Answers.{written, filledBy, chipAnswer, chipOutput}
 
@@ -30,21 +32,26 @@ shows-chip chip long room out = (asked-yes (lengthAllowed (length chip)) _ _ all
     allowed : lengthAllowed (length chip) ≡ true
     allowed = ap lengthAllowed long ∙ usual-length
 
--- A buffer of the chip's length that was lent to the builder:
+-- A buffer of the chip's length that was lent to the builder holds the built chip and no more. (Said of any layout: of one with numbers, the erased chip would be written out.)
+holds-built : (layout : Layout) (golden buffer : List ℕ) → length buffer ≡ layout .length → buildAnswer layout golden (length buffer) ≡ Built →
+    (buildOutput layout golden buffer ≡ builtChip layout golden) × (length (builtChip layout golden) ≡ layout .length)
+unfolding outputOf
+holds-built layout golden buffer long e =
+    let n : length (builtChip layout golden) ≡ layout .length = built-length layout golden (golden-room layout golden (length buffer) e) in
+    let none : drop (0 + length (builtChip layout golden)) buffer ≡ [] = drop-of-length-le buffer {i = 0 + length (builtChip layout golden)} (omega arith) in
+    (ap (λ (a : BuildAnswer). outputOf a layout golden buffer) e ∙ rw none (append-nil (builtChip layout golden)), n)
+
 module _ (golden buffer : List ℕ) (long : length buffer ≡ 32768) where
-  -- it holds the built chip, whose report is the golden image's,
+  -- Its report is the golden image's,
   pub shows-built : buildAnswer reportLayout golden (length buffer) ≡ Built → (room : ℕ) (out : List ℕ) →
       (chipAnswer (buildOutput reportLayout golden buffer) room ≡ written (builtReport golden) room) × (chipOutput (buildOutput reportLayout golden buffer) out ≡ filledBy (builtReport golden) out)
-  unfolding onBuilt outputOf
+  unfolding onBuilt
   shows-built e room out =
-      let n : length (builtChip reportLayout golden) ≡ 32768 = built-length reportLayout golden (golden-room reportLayout golden (length buffer) e) in
-      let none : drop (0 + length (builtChip reportLayout golden)) buffer ≡ _ = drop-of-length-le buffer {i = 0 + length (builtChip reportLayout golden)} (omega arith) in
-      let whole : buildOutput reportLayout golden buffer ≡ builtChip reportLayout golden =
-      ap (λ (a : BuildAnswer). outputOf a reportLayout golden buffer) e ∙ rw none (append-nil (builtChip reportLayout golden)) in
+      let held = holds-built reportLayout golden buffer long e in
       let same : builtReport golden ≡ chipReport (builtChip reportLayout golden) = ap (onBuilt golden) (rw long at e) in
-      let shown = shows-chip (builtChip reportLayout golden) n room out in (
-        ap (λ (chip : List ℕ). chipAnswer chip room) whole ∙ shown .0 ∙ ap (λ (l : List ℕ). written l room) (sym same),
-        ap (λ (chip : List ℕ). chipOutput chip out) whole ∙ shown .1 ∙ ap (λ (l : List ℕ). filledBy l out) (sym same),
+      let shown = shows-chip (builtChip reportLayout golden) (held .1) room out in (
+        ap (λ (chip : List ℕ). chipAnswer chip room) (held .0) ∙ shown .0 ∙ ap (λ (l : List ℕ). written l room) (sym same),
+        ap (λ (chip : List ℕ). chipOutput chip out) (held .0) ∙ shown .1 ∙ ap (λ (l : List ℕ). filledBy l out) (sym same),
       )
 
   -- or the builder's refusal is the report.

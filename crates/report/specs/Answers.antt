@@ -5,7 +5,8 @@ use lib.Dec.{leb}
 use lib.ListN.{length, drop}
 use Rattle.base.specs.Question.{ask}
 use Rattle.bootreader.specs.Answers.{lengthAllowed}
-use Rattle.report.specs.Lines.{refusedLine, chipReport}
+use Rattle.reportlines.specs.Lines.{refusedLine}
+use Rattle.report.specs.Chips.{chipReport}
 use Rattle.report.specs.Files.{fileReport}
 use Rattle.report.specs.declared.refusal.ReportAnswer.{ReportAnswer}
 use Rattle.report.specs.declared.refusal.ReportAnswer.the-variants.{Written, Refused}

@@ -10,7 +10,8 @@ use Rattle.builder.specs.Builder.{builtChip, buildAnswer}
 use Rattle.chip.specs.declared.kind.Layout.{Layout}
 use Rattle.builder.specs.declared.BuildAnswer.{BuildAnswer}
 use Rattle.builder.specs.declared.BuildAnswer.the-variants.{Built, Refused as NotBuilt}
-use Rattle.report.specs.Lines.{refusedLine, chipReport}
+use Rattle.reportlines.specs.Lines.{refusedLine}
+use Rattle.report.specs.Chips.{chipReport}
 
 -- It builds F 32,768, U 16,384, A 16,384,
 abbrev pub reportLayout : Layout

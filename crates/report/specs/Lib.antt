@@ -1,4 +1,4 @@
--- What the contracts of the public calls say, in the order to read it: the lines, the report of an image file, the calls.
-pub mod Lines
+-- What the contracts of the public calls say, in the order to read it, after the lines of `reportlines`: the report of a chip, the report of an image file, the calls.
+pub mod Chips
 pub mod Files
 pub mod Answers

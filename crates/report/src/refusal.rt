@@ -2,8 +2,8 @@
 ghost use mathlib.Core.Path.{_≡_};
 ghost use lib.ListN.{length};
 ghost use Rattle.report.specs.Answers.{refusalAnswer, refusalOutput};
-use crate::line::put_refused;
-use crate::line::refused_length;
+use reportlines::put_refused;
+use reportlines::refused_length;
 
 // How many bytes of a report stand at the front of the buffer, or a refusal that left the buffer as it was.
 pub enum ReportAnswer {

@@ -1,8 +1,8 @@
 -- `boot::report_stuck` meets its contract.
-use Rattle.report.proofs.PutLaws.{Put}
-use Rattle.report.proofs.LineLaws.{length-stuck}
+use Rattle.fields.proofs.Laws.{Put}
+use Rattle.reportlines.proofs.Laws.{length-stuck}
 use Rattle.report.proofs.AnswerLaws.{no-room, put-answer}
-use Rattle.report.specs.Lines.{stuckLine}
+use Rattle.reportlines.specs.Lines.{stuckLine}
 use native.Mathlib.Omega.{arith}
 use mathlib.Core.Path.{sym}
 use borrow.Author.Needs.{needs}

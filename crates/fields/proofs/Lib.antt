@@ -1,0 +1,3 @@
+pub mod PutLaws
+pub mod FieldLaws
+pub mod Laws

@@ -1,0 +1,2 @@
+-- What the contracts of this crate say: the lines of a report, byte for byte.
+pub mod Lines
