@@ -13,17 +13,17 @@ ghost use Rattle.updater.specs.Orders.{orders, currentOrder};
 ghost use Rattle.bench.specs.Effects.{obeyed};
 ghost use Rattle.bench.specs.Bench.{mixture, spanAllows, cutAllowed, cutIn, chipAfter, stateAfter, stateAt, benchAnswer, benchOutput, benchLayout};
 ghost use Rattle.bench.specs.declared.BenchAnswer.the-variants.{Reached, Refused};
-use updater::orders::Operation;
-use updater::run::StartAnswer;
-use updater::run::State;
-use updater::orders::after_order;
-use updater::orders::current_bytes;
-use updater::orders::current_operation;
-use updater::run::start;
+use chip::kind::Spi;
 use flash::erase;
 use flash::program;
 use flash::write;
-use chip::kind::Spi;
+use updater::orders::Operation;
+use updater::orders::after_order;
+use updater::orders::current_bytes;
+use updater::orders::current_operation;
+use updater::run::StartAnswer;
+use updater::run::State;
+use updater::run::start;
 
 // The run's state before the cut order, or at its end; or a refusal that left the chip as it was.
 pub enum BenchAnswer {

@@ -3,9 +3,9 @@ ghost use mathlib.Core.Path.{_≡_};
 ghost use Rattle.bootreader.specs.Answers.{lengthAllowed, bootAnswer, chipWrite, chipListing};
 use crate::reader::Outcome;
 use crate::reader::read_chip;
+use packets::trace::WriteAnswer;
 use writes::cursor::Cursor;
 use writes::cursor::Listing;
-use packets::trace::WriteAnswer;
 use writes::cursor::nth_from;
 
 // What a chip loads, where it is stuck, or a refusal.

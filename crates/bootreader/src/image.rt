@@ -4,9 +4,9 @@ ghost use mathlib.Core.Path.{_≡_};
 ghost use Rattle.bootreader.specs.Answers.{imageLength, aloneCase, imageWithin, imageAnswer, imageWrite, imageListing};
 use crate::reader::Outcome;
 use crate::reader::read_alone;
+use packets::trace::WriteAnswer;
 use writes::cursor::Cursor;
 use writes::cursor::Listing;
-use packets::trace::WriteAnswer;
 use writes::cursor::nth_from;
 
 // What an image loads by itself, or a refusal.

@@ -7,13 +7,13 @@ ghost use Rattle.chip.specs.Kind.{spiHeader};
 ghost use Rattle.chip.specs.Answers.{layoutAnswer};
 ghost use Rattle.builder.specs.Builder.{builtChip, goldenAnswer, buildAnswer, outputOf, buildOutput, LoadsGolden};
 ghost use Rattle.chip.specs.declared.kind.LayoutAnswer.the-variants.{Allowed};
-use flash::erase;
-use flash::write;
+use bootreader::image::ImageAnswer;
+use bootreader::image::check_within;
 use chip::kind::Layout;
 use chip::kind::LayoutAnswer;
 use chip::kind::Spi;
-use bootreader::image::ImageAnswer;
-use bootreader::image::check_within;
+use flash::erase;
+use flash::write;
 
 // The chip was built, or a refusal that left the buffer as it was.
 pub enum BuildAnswer {

@@ -5,10 +5,10 @@ ghost use mathlib.Core.Path.{_≡_};
 ghost use Rattle.bootreader.specs.Answers.{imageWrite};
 ghost use Rattle.imagereader.specs.Reader.{takenStep, takenFrom, takenBy, placeOf, readerAt, moved};
 use bootreader::image;
+use packets::trace::WriteAnswer;
 use writes::cursor::Cursor;
 use writes::cursor::CursorStep;
 use writes::cursor::Listing;
-use packets::trace::WriteAnswer;
 
 // An image, and where among its writes the reader is: before the next one, or at the refusal of the
 // image check.

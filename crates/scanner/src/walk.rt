@@ -8,6 +8,7 @@ ghost use Rattle.packets.specs.Header.{effectOf};
 ghost use Rattle.packets.specs.declared.header.Effect.the-variants.{GoesOn};
 ghost use Rattle.scanner.specs.declared.walk.Status.the-variants.{Going};
 ghost use Rattle.scanner.specs.Walk.{startOf, onward, stoppedAt, endingOf, reachedAt, passed, Stepped, AtHeader};
+use base::smaller;
 use framing::words::word_at;
 use framing::words::words_from;
 use packets::header::CMD;
@@ -18,7 +19,6 @@ use packets::header::effect_of;
 use packets::header::header_of;
 use packets::trace::Finish;
 use packets::trace::Write;
-use base::smaller;
 
 // What a walk comes to: the write it was sent for, with the data words left in its packet, or the
 // end.

@@ -9,11 +9,11 @@ ghost use Rattle.chip.specs.Layout.{page};
 ghost use Rattle.chip.specs.Kind.{spi, spiOn};
 ghost use Rattle.updater.specs.Run.{count, fits, running, after};
 ghost use Rattle.updater.specs.Orders.{currentOrder, operationOf, programmed, orderBytes};
+use crate::run::State;
 use base::smaller;
 use chip::kind::Layout;
 use chip::kind::Spi;
 use comparison::filled_page;
-use crate::run::State;
 
 // What is to be done with the chip: an erase of `length` bytes from `place` on, a program of as many, or
 // a look at as many.

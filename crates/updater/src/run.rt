@@ -17,20 +17,20 @@ ghost use Rattle.comparison.specs.Comparison.{filled, differs, comparison};
 ghost use Rattle.updater.specs.Answers.{startAnswer, totalAnswer, finishedCase, finishedAnswer, orderRefused, orderAnswer, done, asksFor, stopOf, compared, repliedTo, replyAnswer};
 ghost use Rattle.updater.specs.declared.orders.Operation.the-variants.{Look};
 ghost use Rattle.updater.specs.declared.run.ReplyAnswer.the-variants.{Next, Refused};
-use base::smaller;
-use comparison::Comparison;
-use comparison::compare;
 use crate::orders::Operation;
 use crate::orders::after_order;
 use crate::orders::current_bytes;
 use crate::orders::current_operation;
 use crate::orders::orders_in;
-use chip::kind::Layout;
-use chip::kind::LayoutAnswer;
-use chip::kind::Spi;
+use base::smaller;
 use bootreader::image::ImageAnswer;
 use bootreader::image::check_within;
 use bootreader::image::length_allowed;
+use chip::kind::Layout;
+use chip::kind::LayoutAnswer;
+use chip::kind::Spi;
+use comparison::Comparison;
+use comparison::compare;
 
 // Where a run is: its layout, the length of its image, phase, index of the order in the phase (0 in
 // phase 7), and outcome (0; 10 to 12 in phase 7 after a stop).

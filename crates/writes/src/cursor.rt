@@ -3,6 +3,7 @@ ghost use mathlib.Core.Path.{_≡_};
 ghost use Prim.Native.Nat.{_+_, _^_, _<_};
 ghost use Rattle.packets.specs.Trace.{nthWrite, writesFrom};
 ghost use Rattle.writes.specs.Cursor.{cursorAt, rest, stepOf, told, afterWrite};
+use crate::reading::follow;
 use packets::header::Effect;
 use packets::header::effect_of;
 use packets::trace::Write;
@@ -10,7 +11,6 @@ use packets::trace::WriteAnswer;
 use scanner::walk::Status;
 use scanner::walk::Walk;
 use scanner::walk::Walked;
-use crate::reading::follow;
 use scanner::walk::from_sync;
 
 // A place among the writes of a chip or an image: the next word's place, the packet's register and

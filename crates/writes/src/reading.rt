@@ -7,13 +7,13 @@ ghost use Rattle.scanner.specs.declared.walk.Status.the-variants.{Going};
 use fastpath::past_packets;
 use framing::words::word_at;
 use packets::trace::Finish;
+use packets::trace::Write;
 use scanner::walk::Status;
 use scanner::walk::Walk;
 use scanner::walk::Walked;
 use scanner::walk::data_step;
 use scanner::walk::from_sync;
 use scanner::walk::header_step;
-use packets::trace::Write;
 
 // What a walk that goes on no more has come to.
 fn come_to(s: &[u8], w: Walk) -> Walked

@@ -92,11 +92,12 @@ loop-again c =
     let bytes = c .before .before .before .before .before .before .before .before .args .bytes .now in
     let i = c .before .before .before .loop .i in
     let f = fits (c .before .before .before .before) in
-    let n = programmed-length chip place bytes f in
-    (omega arith,
-        rw (c .before .before .before .loop .inv .1, add-one)
-        (ap (λ (byte : ℕ). set (paste chip place (afterProgram chip place bytes) i) (place + i) byte) (next chip place bytes i f (omega arith))
-        ∙ paste-suc chip place (afterProgram chip place bytes) i 0 (omega arith) (omega arith)))
+    let n = programmed-length chip place bytes f in (
+      omega arith,
+      rw (c .before .before .before .loop .inv .1, add-one)
+          (ap (λ (byte : ℕ). set (paste chip place (afterProgram chip place bytes) i) (place + i) byte) (next chip place bytes i f (omega arith))
+          ∙ paste-suc chip place (afterProgram chip place bytes) i 0 (omega arith) (omega arith)),
+    )
 
 same-length : tie.Need-same-length Inv-loop μ-loop
 same-length c = kept (c .before)
