@@ -21,7 +21,7 @@ use Rattle.chip.proofs.Laws.{update-allowed, area-allowed, spi-lawful}
 use Rattle.flash.proofs.Laws.{span-at, span-length, over-length, over-before, over-inside, within-over, erased-length, cleared-length, erased-at}
 use Rattle.updater.specs.Run.{byPhase, count, before, total, position, first, after, running, fits}
 use Rattle.updater.specs.Orders.{Order, erase, program, look, pageOf, orderOf, orders, currentOrder, operationOf, programmed, orderBytes}
-use Rattle.bench.specs.Effects.{placeOf, obeyedSpan, leaves, obeyed, obeyedAll, spanOf, Bytes}
+use Rattle.bench.specs.Effects.{placeOf, obeyedSpan, leaves, obeyed, obeyedAll, spanOf}
 use Rattle.updater.specs.Answers.{askRun, startAnswer}
 use Rattle.bench.specs.Bench.{spanAllows, damageAllowed, cutAllowed, cutIn, chipAfter, stateAfter, stateAt}
 use Rattle.updater.specs.declared.run.State.{State}
@@ -32,7 +32,7 @@ use Rattle.updater.specs.declared.orders.Operation.the-variants.{Erase, Program
 use Rattle.updater.proofs.Laws.{phases, Numbers, numbers-image, fits-says, running-says, area-segments, after-index, after-phase, last-or-not, after-fits, after-position, before-later, position-running, position-ended, first-fits, orders-length, current-order, orders-left, page-length}
 use Rattle.bench.proofs.ReachLaws.{in-reach}
 use Rattle.base.proofs.Laws.{below-or-not}
-use Rattle.bench.proofs.MixtureLaws.{allows-enough, allows-elsewhere, allows-swap, allows-may}
+use Rattle.bench.proofs.MixtureLaws.{allows-enough, allows-elsewhere, allows-swap}
 
 -- THE STATE. One order more is the next state.
 state-next : (k : ℕ) (state : State) → stateAfter (suc k) state ≡ after (stateAfter k state)

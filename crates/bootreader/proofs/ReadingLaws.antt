@@ -9,7 +9,7 @@ use borrow.Author.Tests.{lt-ltb, le-ltb, ltb-true}
 use lib.Dec.{ltb}
 use lib.ListN.{length, drop, length-drop}
 use Rattle.framing.specs.Search.{find}
-use Rattle.packets.specs.Trace.{Trace, wrote, ended, jumps, faulty, short, finish, listOf, lastWbstar, finishFrom}
+use Rattle.packets.specs.Trace.{finishFrom}
 use Rattle.bootreader.specs.Reading.{readAt, searchFrom, jump, readFrom}
 use Rattle.framing.specs.declared.search.Found.{Found}
 use Rattle.framing.specs.declared.search.Found.the-variants.{At, Nothing as NoSync}

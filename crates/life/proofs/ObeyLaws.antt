@@ -1,15 +1,11 @@
 -- Orders on a chip that obeys, byte by byte: what an erase, a program over FF and a look leave.
 use Prim.Native.Nat.{ℕ, _+_, _-_, _<_, _≤_}
 use mathlib.Core.Path.{_≡_, refl, ap, _∙_}
-use mathlib.Core.Logic.{_⊎_, inl, inr}
-use mathlib.Core.Bool.{Bool, true, false}
 use mathlib.Core.List.{List}
 use native.Mathlib.Omega.{arith}
 use native.Mathlib.Nat.{mod-eq-of-lt}
-use borrow.Author.Tests.{ltb-true, ltb-false}
-use lib.Dec.{ltb}
 use lib.Bits.{bitAnd, and-comm, and-le-r, and-mask}
-use lib.ListN.{length, getD, getD-replicate}
+use lib.ListN.{length, getD}
 use lib.Seq.{ext-getD}
 use Rattle.flash.specs.Flash.{erased, span, over, afterProgram}
 use Rattle.flash.proofs.Laws.{span-at, span-length, over-length, over-before, over-inside, over-after, erased-length, erased-at, cleared-length, cleared-at}

@@ -1,23 +1,15 @@
 -- DEMAND 2: a run gives exactly the orders of the list, in order.
-use Prim.Native.Nat.{ℕ, _+_, _-_, _*_, _/_, _<_, _≤_}
-use mathlib.Core.Path.{_≡_, refl, sym, ap, subst, _∙_}
-use mathlib.Core.Logic.{inl, inr}
-use mathlib.Core.List.{List}
-use native.Mathlib.Omega.{arith}
-use lib.ListN.{length, drop, length-take, length-drop}
-use Rattle.chip.specs.Layout.{page}
+use Prim.Native.Nat.{ℕ, _-_, _<_}
+use mathlib.Core.Path.{refl, sym, ap, subst, _∙_}
+use lib.ListN.{length}
 use Rattle.chip.specs.Kind.{Kind, Lawful}
-use Rattle.chip.specs.declared.kind.Layout.{Layout}
-use Rattle.flash.proofs.Laws.{erased-length}
-use Rattle.chip.proofs.Laws.{update-allowed}
-use Rattle.updater.specs.Run.{byPhase, count, before, position}
-use Rattle.updater.specs.Orders.{Order, pageOf, orderOf}
+use Rattle.updater.specs.Run.{count, before, position}
+use Rattle.updater.specs.Orders.{Order}
 use Rattle.bench.specs.Effects.{placeOf, spanOf, InReach, OnePage}
 use Rattle.updater.specs.Answers.{read}
 use Rattle.bench.proofs.Laws.{in-reach}
 use Rattle.life.specs.OrderList.{Demand2}
-use Rattle.updater.proofs.Laws.{phases, Numbers, numbers-image, fits-says, running-says, area-segments, image-pages, area-pages, after-position, position-running, position-ended, orders-length, current-order}
-use Rattle.comparison.proofs.Laws.{filled-length}
+use Rattle.updater.proofs.Laws.{Numbers, fits-says, running-says, after-position, position-running, position-ended, orders-length, current-order}
 use Rattle.life.proofs.ReplyLaws.{moved, halted, halts, moves}
 
 module _ (kind : Kind) (lawful : Lawful kind) where

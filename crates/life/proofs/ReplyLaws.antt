@@ -1,7 +1,7 @@
 -- Replies: question 9 both ways, and what a reply that is taken says.
 use Prim.Native.Nat.{ℕ, zero, suc, _+_, _-_, _<_}
 use mathlib.Core.Path.{_≡_, refl, sym, ap, subst, _∙_}
-use mathlib.Core.Bool.{Bool, true, false, _&&_}
+use mathlib.Core.Bool.{Bool, true, false}
 use mathlib.Core.Option.{Option, some, none}
 use mathlib.Core.List.{List, [], _∷_}
 use native.Mathlib.Omega.{arith}
@@ -9,23 +9,17 @@ use borrow.Author.Tests.{eqb-true, eqb-false, eq-eqb}
 use lib.Dec.{eqb}
 use lib.ListN.{length, getD}
 use Rattle.base.specs.Question.{ask}
-use Rattle.bootreader.specs.Answers.{aloneCase}
-use Rattle.bootreader.specs.declared.reader.Outcome.{Outcome}
-use Rattle.bootreader.specs.declared.reader.Outcome.the-variants.{Loaded, Iprog, Stuck}
-use Rattle.base.proofs.Laws.{asked, both-true, false-true}
-use Rattle.chip.specs.Layout.{askLayout}
-use Rattle.chip.specs.Kind.{Kind, LoadsAlone, Lawful}
-use Rattle.chip.specs.declared.kind.Layout.{Layout}
+use Rattle.base.proofs.Laws.{asked}
+use Rattle.chip.specs.Kind.{Kind}
 use Rattle.comparison.proofs.Laws.{differs-none, none-same}
-use Rattle.updater.specs.Run.{first, after, ended, running, fits}
+use Rattle.updater.specs.Run.{after, ended, running, fits}
 use Rattle.updater.specs.Orders.{Order, erase, program, look, currentOrder}
 use Rattle.comparison.specs.Comparison.{differs}
-use Rattle.updater.specs.Answers.{askRun, startAnswer, done, read, asksFor, stopOf, compared, repliedTo, replyAnswer}
+use Rattle.updater.specs.Answers.{done, read, asksFor, stopOf, compared, repliedTo, replyAnswer}
 use Rattle.life.specs.OrderList.{Replies, FirstDiffers, Moved, Halted}
 use Rattle.updater.specs.declared.run.State.{State}
-use Rattle.updater.specs.declared.run.StartAnswer.the-variants.{Started, Refused as StartRefused}
 use Rattle.updater.specs.declared.run.ReplyAnswer.the-variants.{Next, Stopped, Refused}
-use Rattle.updater.proofs.Laws.{asked-for, Numbers}
+use Rattle.updater.proofs.Laws.{asked-for}
 
 -- Where bytes differ, the address is that of the first byte that does.
 pub some-differs : (place : ℕ) (bytes must : List ℕ) (address : ℕ) → differs place bytes must ≡ some address → FirstDiffers place bytes must address

@@ -18,7 +18,7 @@ use Rattle.bench.specs.Effects.{placeOf, obeyedSpan, obeyed, obeyedAll, spanOf,
 use Rattle.updater.specs.Answers.{startAnswer, replyAnswer}
 use Rattle.bench.specs.Bench.{cutAllowed, cutIn}
 use Rattle.life.specs.BenchLife.{cutEvents, benchEvents}
-use Rattle.life.specs.Life.{Run, World, Event, starts, carries, replies, afterStart, afterCut, orderedImage, carryOut, afterReply, onRun, next, MayStart, TrueRead, MayReply, May, Valid, life, isOn, saidTo, readBy, obeying, uncut}
+use Rattle.life.specs.Life.{Run, World, Event, starts, carries, replies, afterStart, orderedImage, carryOut, afterReply, onRun, next, MayStart, TrueRead, MayReply, May, Valid, life, isOn, saidTo, readBy, obeying, uncut}
 use Rattle.updater.specs.declared.run.State.{State}
 use Rattle.updater.specs.declared.run.StartAnswer.{StartAnswer}
 use Rattle.updater.specs.declared.run.StartAnswer.the-variants.{Started}

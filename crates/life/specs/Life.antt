@@ -1,11 +1,11 @@
 -- DEMAND 3: the life of a chip. Document 01, "A chip's life"; the mission's demand 3 and its premises. One claim about any whole list of events.
-use Prim.Native.Nat.{ℕ, _+_, _<_, _≤_}
+use Prim.Native.Nat.{ℕ, _+_, _≤_}
 use mathlib.Core.Path.{_≡_}
 use mathlib.Core.Bool.{Bool, true, false, _&&_, _||_}
 use mathlib.Core.Option.{Option, some, none}
 use mathlib.Core.List.{List, [], _∷_}
 use lib.Dec.{eqb}
-use lib.ListN.{length, getD}
+use lib.ListN.{length}
 use Rattle.chip.specs.Layout.{goldenAt}
 use Rattle.flash.specs.Flash.{span}
 use Rattle.chip.specs.Cut.{MayLeave}

@@ -1,11 +1,9 @@
 -- DEMAND 2 of a run: it gives exactly the orders of the list, in order, until done or stopped.
-use Prim.Native.Nat.{ℕ, _+_, _-_, _/_, _<_, _≤_}
+use Prim.Native.Nat.{ℕ, _+_, _-_, _<_, _≤_}
 use mathlib.Core.Path.{_≡_}
-use mathlib.Core.Logic.{_⊎_}
 use mathlib.Core.Bool.{true, false}
 use mathlib.Core.List.{List, []}
 use lib.ListN.{length, getD}
-use Rattle.chip.specs.Layout.{page, segment}
 use Rattle.chip.specs.Kind.{Kind}
 use Rattle.chip.specs.declared.kind.Layout.{Layout}
 use Rattle.updater.specs.Run.{total, position, first, after, ended, running, fits}

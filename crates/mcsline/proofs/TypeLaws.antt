@@ -6,7 +6,7 @@ use native.Mathlib.Omega.{arith}
 use borrow.Author.Tests.{eqb-true, eqb-false, eq-eqb, ne-eqb, le-leb, lt-leb}
 use mathlib.Core.Bool.{Bool, true, false}
 use lib.Dec.{eqb, leb}
-use lib.ListN.{length, getD, take, drop}
+use lib.ListN.{length, take, drop}
 use Rattle.base.specs.Question.{ask}
 use Rattle.digits.specs.Pairs.{pairAt, twoPairsAt, pairsAt}
 use Rattle.digits.proofs.Laws.{length-pairs, getD-pairs, drop-pairs, take-pairs}

@@ -13,7 +13,7 @@ use lib.Seq.{drop-length}
 use Rattle.framing.specs.Words.{words, wordAt}
 use Rattle.base.specs.Question.{ask}
 use Rattle.packets.specs.Header.{headOf, effectOf, CMD, WBSTAR}
-use Rattle.packets.specs.Trace.{Before, opened, other, Mode, header, payload, modeOf, afterHeader, Trace, wrote, ended, jumps, faulty, short, trace, lastWbstar, target, finish, listOf, traceFrom, finishFrom, writesFrom, nthWrite}
+use Rattle.packets.specs.Trace.{Before, other, Mode, header, payload, modeOf, afterHeader, Trace, wrote, ended, jumps, faulty, short, trace, lastWbstar, target, finish, listOf, traceFrom, finishFrom, writesFrom, nthWrite}
 use Rattle.scanner.specs.Walk.{walked, beforeOf, going, comes, walkOf, startOf, onward, stoppedAt, reachedAt, passed, endingOf, HeldBy, Held, leftBy, Stepped, Inside}
 use Rattle.packets.specs.declared.header.Effect.{Effect}
 use Rattle.packets.specs.declared.header.Effect.the-variants.{GoesOn, Desync, Iprog as Jumps}

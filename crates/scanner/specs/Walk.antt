@@ -2,13 +2,12 @@
 use Prim.Native.Nat.{ℕ, zero, suc, _+_, _-_, _*_, _≤_}
 use mathlib.Core.Path.{_≡_}
 use mathlib.Core.Bool.{Bool, true, false}
-use mathlib.Core.Option.{some}
 use mathlib.Core.List.{List}
 use lib.ListN.{length, getD, drop}
 use lib.Dec.{eqb}
 use Rattle.framing.specs.Words.{words, wordAt}
 use Rattle.packets.specs.Header.{WBSTAR}
-use Rattle.packets.specs.Trace.{Before, opened, other, Trace, wrote, ended, jumps, faulty, short, trace, modeOf, afterHeader, lastWbstar, target}
+use Rattle.packets.specs.Trace.{Before, opened, other, Trace, wrote, ended, jumps, faulty, short, trace, modeOf, lastWbstar, target}
 use Rattle.packets.specs.declared.header.Effect.{Effect}
 use Rattle.packets.specs.declared.header.Effect.the-variants.{GoesOn, Desync, Iprog as Jumps}
 use Rattle.packets.specs.declared.trace.Finish.the-variants.{Ended, Iprog, Fault, Short}

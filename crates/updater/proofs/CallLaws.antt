@@ -1,21 +1,20 @@
 -- The calls on a run: what their code computes, as the specification says it.
-use Prim.Native.Nat.{ℕ, zero, suc, _+_, _-_, _*_, _/_, _%_, _<_, _≤_, min}
-use mathlib.Core.Path.{_≡_, refl, sym, ap, ap₂, _∙_}
+use Prim.Native.Nat.{ℕ, zero, suc, _+_, _-_, _*_, _/_, _%_, _<_, min}
+use mathlib.Core.Path.{_≡_, refl, sym, ap, _∙_}
 use mathlib.Core.Bool.{Bool, true, false}
 use mathlib.Core.Option.{Option, some, none}
-use mathlib.Core.List.{List, [], _∷_, _++_}
+use mathlib.Core.List.{List, []}
 use native.Mathlib.Omega.{arith}
 use borrow.Author.Tests.{leb-true, leb-false, eqb-true}
 use lib.Dec.{eqb, leb}
-use lib.ListN.{length, getD, set, take, drop, length-take, length-drop, take-append-drop, drop-of-length-le}
-use lib.Seq.{take-all, take-length, drop-cons, paste-suc}
+use lib.ListN.{length, take, drop, length-take, length-drop, drop-of-length-le}
+use lib.Seq.{take-all}
 use Rattle.base.specs.Question.{ask}
 use Rattle.base.proofs.Laws.{both-true}
 use Rattle.bootreader.specs.Answers.{imageLength, imageWithin}
 use Rattle.bootreader.specs.declared.image.ImageAnswer.{ImageAnswer}
 use Rattle.bootreader.proofs.Laws.{onAnswer, by-answer, length-allowed}
 use Rattle.chip.specs.Layout.{page}
-use Rattle.flash.specs.Flash.{erased}
 use Rattle.chip.specs.Kind.{spi}
 use Rattle.chip.specs.Answers.{layoutAnswer}
 use Rattle.chip.specs.declared.kind.Layout.{Layout}
@@ -23,7 +22,7 @@ use Rattle.chip.specs.declared.kind.LayoutAnswer.{LayoutAnswer}
 use Rattle.chip.proofs.Laws.{area-allowed, onLayout, by-layout}
 use Rattle.updater.specs.Run.{byPhase, count, total, first, after, ended, running, stands, fits}
 use Rattle.updater.specs.Orders.{Order, erase, program, look, pageOf, orderOf, currentOrder, operationOf, programmed, lookedFor}
-use Rattle.comparison.specs.Comparison.{filled, differs, comparison}
+use Rattle.comparison.specs.Comparison.{differs, comparison}
 use Rattle.updater.specs.Answers.{askRun, startAnswer, totalAnswer, done, read, asksFor, stopOf, compared, repliedTo}
 use Rattle.updater.specs.declared.run.State.{State}
 use Rattle.updater.specs.declared.run.StartAnswer.{StartAnswer}

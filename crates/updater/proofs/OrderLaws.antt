@@ -1,21 +1,16 @@
 -- The list of orders: its length, and the current order as the one of the table.
-use Prim.Native.Nat.{ℕ, zero, suc, _+_, _-_, _*_, _<_, _≤_}
+use Prim.Native.Nat.{ℕ, zero, suc, _+_, _-_, _*_, _<_}
 use mathlib.Core.Path.{_≡_, refl, sym, ap, _∙_}
-use mathlib.Core.Bool.{Bool, true, false}
+use mathlib.Core.Bool.{true, false}
 use mathlib.Core.List.{List, [], _∷_, _++_}
 use native.Mathlib.Omega.{arith}
-use borrow.Author.Tests.{ltb-true, ltb-false}
-use lib.Dec.{ltb}
-use lib.ListN.{length, getD, drop, length-append, getD-replicate, List·getD-append, List·getD-eq-default, drop-of-length-le}
+use lib.ListN.{length, getD, drop, length-append, List·getD-append, drop-of-length-le}
 use lib.Seq.{getD-append-add, getD-take, getD-drop, drop-cons}
 use Rattle.chip.specs.Layout.{page}
-use Rattle.flash.specs.Flash.{erased}
 use Rattle.chip.specs.Kind.{Kind}
 use Rattle.chip.specs.declared.kind.Layout.{Layout}
-use Rattle.flash.proofs.Laws.{getD-any, erased-length}
 use Rattle.updater.specs.Run.{count, before, total, position, running, fits}
 use Rattle.updater.specs.Orders.{Order, erase, pageOf, orderOf, inPhase, ordersBefore, orders, currentOrder}
-use Rattle.comparison.specs.Comparison.{filled}
 use Rattle.updater.specs.declared.run.State.{State}
 use Rattle.updater.proofs.RunLaws.{fits-says, running-says, before-later, position-running, position-ended}
 

@@ -23,8 +23,6 @@ use Rattle.updater.specs.declared.run.FinishedAnswer.{FinishedAnswer}
 use Rattle.updater.specs.declared.run.FinishedAnswer.the-variants.{Running, Ended, Refused as FinishedRefused}
 use Rattle.updater.specs.declared.run.Asked.the-variants.{Ordered, Refused as OrderRefused}
 use Rattle.updater.specs.declared.run.OrderAnswer.{OrderAnswer}
-use Rattle.comparison.specs.declared.Comparison.{Comparison}
-use Rattle.comparison.specs.declared.Comparison.the-variants.{Same, Differs}
 use Rattle.updater.specs.declared.run.ReplyAnswer.{ReplyAnswer}
 use Rattle.updater.specs.declared.run.ReplyAnswer.the-variants.{Next, Stopped, Refused}
 

@@ -1,9 +1,6 @@
 -- The orders of a run. Document 01, "Orders of one run" and question 9.
-use Prim.Native.Nat.{ℕ, zero, suc, _+_, _-_, _*_}
-use mathlib.Core.Bool.{true, false}
-use mathlib.Core.Option.{Option, some, none}
+use Prim.Native.Nat.{ℕ, zero, suc, _+_, _*_}
 use mathlib.Core.List.{List, [], _∷_, _++_}
-use lib.Dec.{eqb}
 use lib.ListN.{length, getD}
 use Rattle.chip.specs.Layout.{page, segment, switchAt}
 use Rattle.flash.specs.Flash.{erased, span}

@@ -1,19 +1,16 @@
 // A run: its state, its orders, and the replies that move it on. Run, order, reply and stop are document
 // 01's terms. An order is an operation on the chip that the run asks for (an erase, a program or a
 // look); the host carries it out and replies; a stop is a look that read something else.
-ghost use Prim.Native.Nat.{_≤_};
 ghost use mathlib.Core.Path.{_≡_};
 ghost use mathlib.Core.Bool.{true};
 ghost use lib.ListN.{length};
 ghost use Rattle.base.specs.Question.{ask};
-ghost use Rattle.chip.specs.Layout.{page};
-ghost use Rattle.flash.specs.Flash.{erased};
 ghost use Rattle.chip.specs.Answers.{layoutAnswer};
 ghost use Rattle.chip.specs.declared.kind.LayoutAnswer.the-variants.{Allowed};
-ghost use Rattle.chip.specs.Kind.{spi, spiOn};
+ghost use Rattle.chip.specs.Kind.{spi};
 ghost use Rattle.updater.specs.Run.{count, outcomeAllowed, stands, fits, running, after};
-ghost use Rattle.updater.specs.Orders.{currentOrder, operationOf, programmed, orderBytes, lookedFor};
-ghost use Rattle.comparison.specs.Comparison.{filled, differs, comparison};
+ghost use Rattle.updater.specs.Orders.{currentOrder, operationOf, lookedFor};
+ghost use Rattle.comparison.specs.Comparison.{differs, comparison};
 ghost use Rattle.updater.specs.Answers.{startAnswer, totalAnswer, finishedCase, finishedAnswer, orderRefused, orderAnswer, done, asksFor, stopOf, compared, repliedTo, replyAnswer};
 ghost use Rattle.updater.specs.declared.orders.Operation.the-variants.{Look};
 ghost use Rattle.updater.specs.declared.run.ReplyAnswer.the-variants.{Next, Refused};

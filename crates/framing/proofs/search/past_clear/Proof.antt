@@ -4,7 +4,6 @@ use mathlib.Core.Path.{_≡_, refl, sym, _∙_}
 use native.Mathlib.Nat.{add-zero}
 use native.Mathlib.Omega.{arith}
 use borrow.Author.Tests.{not-false}
-use borrow.Author.Needs.{needs}
 use lib.ListN.{length, drop}
 use Rattle.framing.specs.Search.{find}
 use Rattle.framing.proofs.SearchLaws.{find-past, differs-at}
