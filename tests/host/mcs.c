@@ -1,6 +1,7 @@
 /* tealsettle_mcs_read beside a reader of its own, written from the specification and sharing nothing with
- * the library: random texts, good and damaged, short and long, with room and without. Answers and every
- * byte of the buffer are compared. Prints how many were tried. */
+ * the library: random texts, good and damaged, short and long, with room and without; and whole files of more
+ * than 65,536 bytes as other tools write them, with the answers that the specification gives. Answers and
+ * every byte of the buffer are compared. Prints how many were tried. */
 #include <stdio.h>
 #include <stdlib.h>
 #include <string.h>
@@ -110,7 +111,7 @@ static TealsettleRead model(const uint8_t *text, size_t length, uint8_t *out, si
 
 /* Texts. */
 
-static uint8_t text[1 << 16];
+static uint8_t text[1 << 19];
 static size_t length;
 
 static void put_record(unsigned address, unsigned type, const uint8_t *data, unsigned count, int cr)
@@ -173,6 +174,72 @@ static void damage(void)
     }
 }
 
+/* Whole files. */
+
+enum { FILE_ROOM = 131072 };
+
+/* An image's length, the bytes in a record, CR LF or LF, a type 04 record at each multiple of 65,536 or at 0
+ * only; and the refusal, or 0. */
+typedef struct {
+    size_t image_length;
+    unsigned per_record;
+    int cr, each_segment;
+    uint32_t number;
+    size_t place;
+} File;
+
+static const File files[] = {
+    /* across 65,536 */
+    {70000, 16, 0, 1, 0, 0},
+    {70000, 16, 1, 1, 0, 0},
+    {70000, 32, 0, 1, 0, 0},
+    {70000, 32, 1, 1, 0, 0},
+    /* up to a multiple of 65,536, one byte less and one more, and as much as there is room for */
+    {65535, 16, 0, 1, 0, 0},
+    {65536, 16, 0, 0, 0, 0},
+    {65537, 16, 0, 1, 0, 0},
+    {FILE_ROOM, 32, 0, 1, 0, 0},
+    {FILE_ROOM + 1, 32, 0, 1, 19, 0},
+    /* a record past a multiple of 65,536 */
+    {70000, 48, 0, 1, 17, 147436},
+    /* no type 04 record at 65,536: addresses do not wrap */
+    {65552, 16, 0, 0, 17, 180240},
+    {65552, 16, 1, 0, 17, 184337},
+};
+
+enum { FILES = sizeof files / sizeof files[0] };
+
+static void put_image(const uint8_t *image, const File *file)
+{
+    length = 0;
+    for (size_t i = 0; i < file->image_length; i += file->per_record) {
+        size_t left = file->image_length - i;
+        uint8_t half[2] = {(uint8_t)(i >> 24), (uint8_t)(i >> 16)};
+        if (i % 65536 == 0 && (i == 0 || file->each_segment))
+            put_record(0, 4, half, 2, file->cr);
+        put_record((unsigned)i, 0, image + i, left < file->per_record ? (unsigned)left : file->per_record, file->cr);
+    }
+    put_record(0, 1, image, 0, file->cr);
+}
+
+/* 0 where a file is answered otherwise than it should be, by the library or by the model. */
+static int file_answered(const File *file)
+{
+    static uint8_t image[FILE_ROOM + 1], ours[FILE_ROOM], theirs[FILE_ROOM], expected[FILE_ROOM];
+    size_t read = file->number ? 0 : file->image_length;
+    for (size_t i = 0; i < sizeof image; i++)
+        image[i] = (uint8_t)(i % 251);
+    put_image(image, file);
+    memset(ours, MARK, sizeof ours);
+    memset(theirs, MARK, sizeof theirs);
+    memset(expected, MARK, sizeof expected);
+    memcpy(expected, image, read);
+    TealsettleRead r = tealsettle_mcs_read(text, length, ours, sizeof ours);
+    TealsettleRead m = model(text, length, theirs, sizeof theirs);
+    return r.number == file->number && r.place == file->place && r.length == read && m.number == r.number && m.place == r.place &&
+           m.length == r.length && memcmp(ours, expected, sizeof ours) == 0 && memcmp(theirs, expected, sizeof theirs) == 0;
+}
+
 int main(void)
 {
     static uint8_t ours[ROOM + 8], theirs[ROOM + 8];
@@ -193,7 +260,12 @@ int main(void)
         }
         answers[m.number]++;
     }
-    printf("host test: %d MCS texts tried, none differs (read %ld", TEXTS, answers[0]);
+    for (int i = 0; i < FILES; i++)
+        if (!file_answered(&files[i])) {
+            printf("file %d of %zu bytes is answered otherwise\n", i, files[i].image_length);
+            return 1;
+        }
+    printf("host test: %d files and %d MCS texts tried, none differs (read %ld", FILES, TEXTS, answers[0]);
     for (int n = 14; n <= 19; n++)
         printf(", %d %ld", n, answers[n]);
     printf(")\n");

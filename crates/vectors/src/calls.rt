@@ -1,0 +1,159 @@
+// The calls on layouts, runs and texts, most of them as the C host calls them: in plain numbers. F, U and
+// A are the numbers f, g and h of a line, a state's seven b to h.
+ghost use Prim.Native.Nat.{_≤_};
+ghost use lib.ListN.{length};
+use crate::parse::Numbers;
+use crate::room;
+use crate::say;
+use crate::words;
+use base::smaller;
+use chip::kind::LayoutAnswer;
+use chip::kind::Spi;
+use host::build::tealsettle_build;
+use host::cut::tealsettle_cut_run;
+use host::run::tealsettle_finished;
+use host::run::tealsettle_order;
+use host::run::tealsettle_reply;
+use host::run::tealsettle_start;
+use host::run::tealsettle_total;
+use host::text::tealsettle_mcs_read;
+
+// The chip kind's number.
+pub(crate) const SPI: u32 = 0;
+
+fn layout(n: Numbers) {
+    let answer = Spi::layout(n.f, n.g, n.h).check();
+    match answer {
+        LayoutAnswer::Allowed => say::word(words::ALLOWED),
+        LayoutAnswer::Refused { number, place } => say::refused(number, place),
+    }
+}
+
+fn start(n: Numbers, image: &[u8]) {
+    let answer = tealsettle_start(SPI, n.f, n.g, n.h, image);
+    say::result(words::STARTED, words::REFUSED, answer.number, answer.place);
+    say::state(answer.state);
+}
+
+fn total(n: Numbers) {
+    let answer = tealsettle_total(SPI, n.e, n.f, n.g, n.h);
+    say::result(words::TOTAL, words::REFUSED, answer.number, answer.place);
+    say::number(answer.orders);
+}
+
+// A number of 32 bits, which phase, outcome and the kind of reply are.
+fn narrow(value: usize) -> u32 {
+    (value % 4_294_967_296) as u32
+}
+
+// The name of an operation.
+fn operation(number: u32) -> u64 {
+    match number {
+        1 => words::ERASE,
+        2 => words::PROGRAM,
+        _ => words::LOOK,
+    }
+}
+
+fn order(n: Numbers, image: &[u8]) {
+    let answer = tealsettle_order(
+        SPI,
+        n.b,
+        n.c,
+        n.d,
+        n.e,
+        narrow(n.f),
+        n.g,
+        narrow(n.h),
+        image,
+    );
+    let name = operation(answer.operation);
+    say::result(name, words::REFUSED, answer.number, answer.place);
+    say::number(answer.address);
+    say::number(answer.length);
+    let bytes = answer.bytes;
+    say::page(bytes);
+}
+
+fn reply(n: Numbers, image: &[u8], bytes: &[u8]) {
+    let answer = tealsettle_reply(
+        SPI,
+        n.b,
+        n.c,
+        n.d,
+        n.e,
+        narrow(n.f),
+        n.g,
+        narrow(n.h),
+        image,
+        narrow(n.a),
+        bytes,
+    );
+    let not = say::either(answer.stopped, words::REFUSED, words::STOPPED);
+    say::result(words::NEXT, not, answer.number, answer.place);
+    say::state(answer.state);
+}
+
+fn ended(n: Numbers) {
+    let answer = tealsettle_finished(SPI, n.b, n.c, n.d, n.e, narrow(n.f), n.g, narrow(n.h));
+    let how = say::either(answer.ended, words::RUNNING, words::ENDED);
+    say::result(how, words::REFUSED, answer.number, answer.place);
+    say::number(answer.outcome as usize);
+}
+
+// A call that changes no byte, given the last two fields.
+pub(crate) fn call(key: u64, n: Numbers, second: &[u8], third: &[u8]) {
+    match key {
+        words::LAYOUT => layout(n),
+        words::TOTAL => total(n),
+        words::ENDED => ended(n),
+        words::START => start(n, third),
+        words::ORDER => order(n, third),
+        _ => reply(n, second, third),
+    }
+}
+
+fn build(n: Numbers, image: &[u8], out: &mut [u8]) {
+    let answer = tealsettle_build(SPI, n.f, n.g, n.h, image, out);
+    say::result(words::BUILT, words::REFUSED, answer.number, answer.place);
+    say::bytes(out);
+}
+
+fn read(text: &[u8], out: &mut [u8]) {
+    let answer = tealsettle_mcs_read(text, out);
+    say::result(words::READ, words::REFUSED, answer.number, answer.place);
+    say::number(answer.length);
+    say::bytes(out);
+}
+
+// A run cut after so many orders: U, A and their number.
+fn cut(n: Numbers, image: &[u8], damage: &[u8], chip: &mut [u8]) {
+    let answer = tealsettle_cut_run(SPI, chip, n.f, n.g, image, n.h, damage);
+    say::result(words::REACHED, words::REFUSED, answer.number, answer.place);
+    say::state(answer.state);
+    say::bytes(chip);
+}
+
+// Copies bytes to the front of a buffer, as many as fit: how many.
+fn copied(bytes: &[u8], out: &mut [u8]) -> usize
+    ensures { λ r. ⌜ r ≤ length (now (out .exit)) ⌝ }
+{
+    let size = smaller(bytes.len(), out.len());
+    bytes::copy(&bytes[0..size], out);
+    size
+}
+
+fn call_out(key: u64, n: Numbers, first: &[u8], second: &[u8], out: &mut [u8]) {
+    match key {
+        words::BUILD => build(n, second, out),
+        words::READ => read(second, out),
+        _ => cut(n, first, second, out),
+    }
+}
+
+// A call that may change the bytes of the last field: it is lent a copy of them.
+pub(crate) fn call_on(key: u64, n: Numbers, first: &[u8], second: &[u8], third: &[u8]) {
+    let mut space = room();
+    let size = copied(third, &mut space);
+    call_out(key, n, first, second, &mut space[0..size]);
+}

@@ -1,0 +1,118 @@
+// What is printed of an answer: words, numbers and bytes, each with a space before it.
+use crate::words::NOTHING;
+use crate::words::REFUSED;
+use crate::words::STATE;
+use results::run::TealsettleState;
+
+// A word, its letters from the highest byte down.
+pub(crate) fn word(word: u64) {
+    io::write_all(1, b" ");
+    let mut rest = word;
+    let mut i: usize = 0;
+    while i < 8 {
+        let letter = rest / 0x0100_0000_0000_0000;
+        if letter != 0 {
+            io::write_all(1, &[(letter % 256) as u8]);
+        }
+        rest = rest % 0x0100_0000_0000_0000 * 256;
+        i += 1;
+    }
+}
+
+pub(crate) fn number(value: usize) {
+    io::write_all(1, b" ");
+    io::print_decimal(1, value as u64);
+}
+
+// One of two words, by a flag of the C host.
+pub(crate) fn either(flag: u32, no: u64, yes: u64) -> u64 {
+    if flag == 0 { no } else { yes }
+}
+
+pub(crate) fn refused(number: u32, place: usize) {
+    result(REFUSED, REFUSED, number, place);
+}
+
+// How a call ended: a word, and where it ended badly the number and the place.
+pub(crate) fn result(good: u64, bad: u64, number: u32, place: usize) {
+    if number == 0 {
+        return word(good);
+    }
+    word(bad);
+    self::number(number as usize);
+    self::number(place);
+}
+
+// The character of a hexadecimal digit.
+fn digit(value: u8) -> u8 {
+    if value < 10 {
+        return 48 + value;
+    }
+    55 + value % 16
+}
+
+// A byte in hexadecimal.
+fn byte(b: u8) {
+    io::write_all(1, &[digit(b / 16), digit(b % 16)]);
+}
+
+// A word of a packet in hexadecimal.
+pub(crate) fn packet_word(w: u32) {
+    io::write_all(1, b" ");
+    byte((w / 16_777_216) as u8);
+    byte((w / 65_536 % 256) as u8);
+    byte((w / 256 % 256) as u8);
+    byte((w % 256) as u8);
+}
+
+// A byte that stands `count` times.
+fn run(b: u8, count: usize) {
+    if count == 0 {
+        return;
+    }
+    io::write_all(1, b" ");
+    byte(b);
+    if count == 1 {
+        return;
+    }
+    io::write_all(1, b"*");
+    io::print_decimal(1, count as u64);
+}
+
+// Every byte of a buffer, those that stand more than once in a row with their number.
+pub(crate) fn bytes(buffer: &[u8]) {
+    if buffer.len() == 0 {
+        word(NOTHING);
+    }
+    let mut last = 0;
+    let mut count = 0;
+    let mut i = 0;
+    while i < buffer.len() {
+        let b = buffer[i];
+        if b != last {
+            run(last, count);
+            count = 0;
+        }
+        last = b;
+        count += 1;
+        i += 1;
+    }
+    run(last, count);
+}
+
+// The bytes of an order.
+pub(crate) fn page(page: [u8; 256]) {
+    bytes(&page);
+}
+
+// The state of a run: F, U, A, n, phase, index, outcome.
+pub(crate) fn state(state: TealsettleState) {
+    word(STATE);
+    number(state.length);
+    number(state.update);
+    number(state.area);
+    number(state.image_length);
+    number(state.phase as usize);
+    number(state.index);
+    number(state.outcome as usize);
+}
