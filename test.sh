@@ -6,6 +6,9 @@
 set -euo pipefail
 cd "$(dirname "$0")"
 
+# Three at a time: the crates of a level, and the edits of a batch, end at different times, and a core would wait.
+export RT_JOBS=${RT_JOBS:-3}
+
 log=$(mktemp)
 trap 'rm -f "$log"' EXIT
 rt ci | tee "$log"

@@ -10,8 +10,8 @@ use lib.ListN.{length, getD, take, drop, length-take, drop-of-length-le}
 use lib.Seq.{take-all, take-append-seam, ext-getD}
 use Rattle.base.specs.Question.{ask}
 use Rattle.bootreader.specs.Answers.{lengthAllowed, imageLength, aloneCase}
-use Rattle.bootreader.specs.declared.reader.Outcome.{Outcome}
-use Rattle.bootreader.specs.declared.reader.Outcome.the-variants.{Loaded, Iprog, Stuck}
+use Rattle.configreader.specs.declared.Outcome.{Outcome}
+use Rattle.configreader.specs.declared.Outcome.the-variants.{Loaded, Iprog, Stuck}
 use Rattle.bootreader.proofs.Laws.{length-allowed}
 use Rattle.chip.specs.Layout.{page, segment, switchAt, updateAllowed, areaAllowed, askLayout}
 use Rattle.flash.specs.Flash.{erased, span, within, cleared, afterProgram}
@@ -22,11 +22,11 @@ use Rattle.flash.proofs.Laws.{span-at, span-length, over-length, over-before, o
 use Rattle.updater.specs.Run.{byPhase, count, before, total, position, first, after, running, fits}
 use Rattle.updater.specs.Orders.{Order, erase, program, look, pageOf, orderOf, orders, currentOrder, operationOf, programmed, orderBytes}
 use Rattle.bench.specs.Effects.{placeOf, obeyedSpan, leaves, obeyed, obeyedAll, spanOf}
-use Rattle.updater.specs.Answers.{askRun, startAnswer}
+use Rattle.starts.specs.Starts.{askRun, startAnswer}
 use Rattle.bench.specs.Bench.{spanAllows, damageAllowed, cutAllowed, cutIn, chipAfter, stateAfter, stateAt}
 use Rattle.updater.specs.declared.run.State.{State}
-use Rattle.updater.specs.declared.run.StartAnswer.{StartAnswer}
-use Rattle.updater.specs.declared.run.StartAnswer.the-variants.{Started, Refused as StartRefused}
+use Rattle.starts.specs.declared.StartAnswer.{StartAnswer}
+use Rattle.starts.specs.declared.StartAnswer.the-variants.{Started, Refused as StartRefused}
 use Rattle.updater.specs.declared.orders.Operation.{Operation}
 use Rattle.updater.specs.declared.orders.Operation.the-variants.{Erase, Program, Look}
 use Rattle.updater.proofs.Laws.{phases, Numbers, numbers-image, fits-says, running-says, area-segments, after-index, after-phase, last-or-not, after-fits, after-position, before-later, position-running, position-ended, first-fits, orders-length, current-order, orders-left, page-length}

@@ -14,7 +14,7 @@ use Rattle.chip.specs.declared.kind.Layout.{Layout}
 use Rattle.updater.specs.Run.{total, first, after}
 use Rattle.updater.specs.Orders.{Order, erase, program, look, orders}
 use Rattle.bench.specs.Effects.{placeOf, obeyedSpan, leaves, obeyedAll}
-use Rattle.updater.specs.Answers.{askRun}
+use Rattle.starts.specs.Starts.{askRun}
 use Rattle.updater.specs.declared.run.State.{State}
 use Rattle.bench.specs.declared.BenchAnswer.{BenchAnswer}
 use Rattle.bench.specs.declared.BenchAnswer.the-variants.{Reached, Refused}

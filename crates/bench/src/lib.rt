@@ -17,13 +17,13 @@ use chip::kind::Spi;
 use flash::erase;
 use flash::program;
 use flash::write;
+use starts::StartAnswer;
+use starts::start;
 use updater::orders::Operation;
 use updater::orders::after_order;
 use updater::orders::current_bytes;
 use updater::orders::current_operation;
-use updater::run::StartAnswer;
 use updater::run::State;
-use updater::run::start;
 
 // The run's state before the cut order, or at its end; or a refusal that left the chip as it was.
 pub enum BenchAnswer {

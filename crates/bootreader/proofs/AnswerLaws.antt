@@ -11,11 +11,11 @@ use lib.Seq.{take-length}
 use native.Mathlib.Nat.{zero-add}
 use Rattle.base.specs.Question.{ask}
 use Rattle.packets.specs.Trace.{modeOf, traceFrom, finishFrom, writesFrom, contents, nthWrite, contentOf}
-use Rattle.bootreader.specs.Reading.{readFrom, readChip, readAlone, listed}
+use Rattle.configreader.specs.Reading.{readFrom, readChip, readAlone, listed}
 use Rattle.writes.specs.Cursor.{cursorAt, rest, stepOf, nthStep}
 use Rattle.bootreader.specs.Answers.{lengthAllowed, imageLength, longestImage, bootCase, bootAnswer, aloneCase, askImage, cursorOf, chipWrite, imageAnswer, imageWrite, imageListing}
-use Rattle.bootreader.specs.declared.reader.Outcome.{Outcome}
-use Rattle.bootreader.specs.declared.reader.Outcome.the-variants.{Loaded, Iprog, Stuck}
+use Rattle.configreader.specs.declared.Outcome.{Outcome}
+use Rattle.configreader.specs.declared.Outcome.the-variants.{Loaded, Iprog, Stuck}
 use Rattle.bootreader.specs.declared.chip.BootAnswer.the-variants.{Loaded as Boots}
 use Rattle.packets.specs.declared.trace.Finish.the-variants.{Ended}
 use Rattle.packets.specs.declared.trace.Write.{Write}
@@ -25,7 +25,7 @@ use Rattle.bootreader.specs.declared.image.ImageAnswer.{ImageAnswer}
 use Rattle.bootreader.specs.declared.image.ImageAnswer.the-variants.{Accepted, Refused}
 use Rattle.base.proofs.Laws.{asked, false-true}
 use Rattle.packets.proofs.Laws.{counted}
-use Rattle.bootreader.proofs.ReadingLaws.{Proper, proper, alone-parts}
+use Rattle.configreader.proofs.Laws.{Proper, proper, alone-parts}
 use Rattle.writes.proofs.Laws.{given, nth-step}
 
 -- what question 1 says of a length, and question 4 of an image's

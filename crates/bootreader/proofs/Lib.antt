@@ -1,4 +1,2 @@
-pub mod ReadingLaws
 pub mod AnswerLaws
-pub mod PlacementLaws
 pub mod Laws

@@ -5,11 +5,11 @@ use mathlib.Core.List.{List}
 use lib.ListN.{length}
 use lib.Dec.{eqb, leb}
 use Rattle.base.specs.Question.{ask}
-use Rattle.bootreader.specs.Reading.{readChip, readAlone, listed}
+use Rattle.configreader.specs.Reading.{readChip, readAlone, listed}
 use Rattle.packets.specs.Trace.{writesFrom, nthWrite}
 use Rattle.writes.specs.Cursor.{cursorAt}
-use Rattle.bootreader.specs.declared.reader.Outcome.{Outcome}
-use Rattle.bootreader.specs.declared.reader.Outcome.the-variants.{Loaded, Iprog, Stuck}
+use Rattle.configreader.specs.declared.Outcome.{Outcome}
+use Rattle.configreader.specs.declared.Outcome.the-variants.{Loaded, Iprog, Stuck}
 use Rattle.bootreader.specs.declared.chip.BootAnswer.{BootAnswer}
 use Rattle.bootreader.specs.declared.chip.BootAnswer.the-variants.{Loaded as Boots, Stuck as IsStuck, Refused}
 use Rattle.bootreader.specs.declared.image.ImageAnswer.{ImageAnswer}

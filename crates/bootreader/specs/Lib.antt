@@ -1,3 +1,2 @@
--- What the contracts of the public calls say, in the order to read it: from sync to sync, and the calls.
-pub mod Reading
+-- What the contracts of the public calls say.
 pub mod Answers

@@ -1,8 +1,8 @@
 // What a chip loads: the calls on a chip's bytes. They ask question 1 of its length, and no more.
 ghost use mathlib.Core.Path.{_≡_};
 ghost use Rattle.bootreader.specs.Answers.{lengthAllowed, bootAnswer, chipWrite, chipListing};
-use crate::reader::Outcome;
-use crate::reader::read_chip;
+use configreader::Outcome;
+use configreader::read_chip;
 use packets::trace::WriteAnswer;
 use writes::cursor::Cursor;
 use writes::cursor::Listing;

@@ -2,8 +2,8 @@
 // Loaded: with no jump to give, an IPROG is refused with 6, every other fault with 5.
 ghost use mathlib.Core.Path.{_≡_};
 ghost use Rattle.bootreader.specs.Answers.{imageLength, aloneCase, imageWithin, imageAnswer, imageWrite, imageListing};
-use crate::reader::Outcome;
-use crate::reader::read_alone;
+use configreader::Outcome;
+use configreader::read_alone;
 use packets::trace::WriteAnswer;
 use writes::cursor::Cursor;
 use writes::cursor::Listing;

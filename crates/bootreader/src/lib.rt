@@ -1,6 +1,5 @@
-// What an FPGA loads from a chip's bytes, or from an image read by itself: from sync to sync (`reader`), and the
-// calls on a chip's bytes (`chip`) and on an image (`image`).
+// What an FPGA loads from a chip's bytes, or from an image read by itself: the calls on a chip's bytes (`chip`) and
+// on an image (`image`).
 
 pub mod chip;
 pub mod image;
-pub mod reader;

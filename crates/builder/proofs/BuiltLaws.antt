@@ -9,14 +9,15 @@ use lib.Dec.{leb, ltb}
 use lib.ListN.{length, getD, take, drop, length-append, getD-replicate, List·getD-eq-default}
 use lib.Seq.{take-at}
 use Rattle.base.specs.Question.{ask}
-use Rattle.bootreader.specs.Reading.{readAlone, listed}
+use Rattle.configreader.specs.Reading.{readAlone, listed}
 use Rattle.packets.specs.Trace.{contents}
 use Rattle.bootreader.specs.Answers.{lengthAllowed, imageWithin}
-use Rattle.bootreader.specs.declared.reader.Outcome.the-variants.{Loaded}
+use Rattle.configreader.specs.declared.Outcome.the-variants.{Loaded}
 use Rattle.bootreader.specs.declared.image.ImageAnswer.{ImageAnswer}
 use Rattle.bootreader.specs.declared.image.ImageAnswer.the-variants.{Accepted, Refused as ImageRefused}
 use Rattle.base.proofs.Laws.{asked}
-use Rattle.bootreader.proofs.Laws.{length-allowed, onAnswer, by-answer, accepted-length, ends-within, local}
+use Rattle.bootreader.proofs.Laws.{length-allowed, onAnswer, by-answer, accepted-length}
+use Rattle.configreader.proofs.Laws.{ends-within, local}
 use Rattle.chip.specs.Layout.{segment, switchAt, goldenAt, updateAllowed, areaAllowed}
 use Rattle.flash.specs.Flash.{erased, over, within}
 use Rattle.chip.specs.Kind.{spi, spiOn, spiHeader, switchWord, goldenArea, Covers, Good, LoadsAlone, Loads}

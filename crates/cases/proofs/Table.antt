@@ -9,13 +9,13 @@ use Rattle.framing.specs.Words.{words}
 use Rattle.base.specs.Question.{ask}
 use Rattle.packets.specs.Header.{registerOk, type1Of, type2Of, headOf, effectOf}
 use Rattle.packets.specs.Trace.{modeOf, afterHeader, trace, finish}
-use Rattle.bootreader.specs.Reading.{readAt, searchFrom, jump}
+use Rattle.configreader.specs.Reading.{readAt, searchFrom, jump}
 use Rattle.bootreader.specs.Answers.{lengthAllowed, imageLength, aloneCase, imageAnswer}
 use Rattle.chip.specs.Layout.{updateAllowed, areaAllowed, askLayout}
 use Rattle.chip.specs.Answers.{layoutAnswer, switchCase, switchAnswer}
 use Rattle.updater.specs.Run.{byPhase, count, before as runBefore}
 use Rattle.updater.specs.Orders.{inPhase, ordersBefore}
-use Rattle.updater.specs.Answers.{totalAnswer}
+use Rattle.starts.specs.Starts.{totalAnswer}
 use Rattle.digits.specs.Digit.{digits, total, placeIn, digitOf}
 use Rattle.mcsline.specs.Line.{isEnding, onto, bySpelled, spelledBy, lineSpells, byType, typed, parsed, byParsed}
 use Rattle.mcs.specs.Reading.{before, linesOf, follows, isEmpty, readFrom}

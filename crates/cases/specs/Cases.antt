@@ -14,9 +14,9 @@ use Rattle.chip.specs.declared.switch.SwitchAnswer.{SwitchAnswer}
 use Rattle.chip.specs.declared.switch.SwitchAnswer.the-variants.{On, Off, Refused as SwitchRefused}
 use Rattle.chip.specs.Kind.{spi}
 use Rattle.updater.specs.Orders.{Order, orders as runOrders}
-use Rattle.updater.specs.Answers.{totalAnswer}
-use Rattle.updater.specs.declared.run.TotalAnswer.{TotalAnswer}
-use Rattle.updater.specs.declared.run.TotalAnswer.the-variants.{Total, Refused as TotalRefused}
+use Rattle.starts.specs.Starts.{totalAnswer}
+use Rattle.starts.specs.declared.TotalAnswer.{TotalAnswer}
+use Rattle.starts.specs.declared.TotalAnswer.the-variants.{Total, Refused as TotalRefused}
 use Rattle.mcs.specs.Answers.{readAnswer, readOutput}
 use Rattle.mcs.specs.declared.reader.ReadAnswer.{ReadAnswer}
 use Rattle.mcs.specs.declared.reader.ReadAnswer.the-variants.{Read, Refused as TextRefused}

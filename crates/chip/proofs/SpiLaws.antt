@@ -11,12 +11,13 @@ use lib.ListN.{length, getD, drop}
 use Rattle.framing.specs.Search.{syncBytes, starts}
 use Rattle.framing.specs.Words.{wordAt}
 use Rattle.base.specs.Question.{ask}
-use Rattle.bootreader.specs.Reading.{readFrom, readChip, readAlone, listed}
+use Rattle.configreader.specs.Reading.{readFrom, readChip, readAlone, listed}
 use Rattle.packets.specs.Trace.{contents}
 use Rattle.bootreader.specs.Answers.{imageWithin}
-use Rattle.bootreader.specs.declared.reader.Outcome.the-variants.{Loaded}
+use Rattle.configreader.specs.declared.Outcome.the-variants.{Loaded}
 use Rattle.bootreader.specs.declared.image.ImageAnswer.the-variants.{Accepted}
-use Rattle.bootreader.proofs.Laws.{alone-stays, length-allowed, NoneIn, search-past, jumps-to, placed, placed-contents, ends-within, accepted-reads}
+use Rattle.bootreader.proofs.Laws.{alone-stays, length-allowed, accepted-reads}
+use Rattle.configreader.proofs.Laws.{NoneIn, search-past, jumps-to, placed, placed-contents, ends-within}
 use Rattle.base.proofs.Laws.{false-true}
 use Rattle.framing.proofs.Laws.{differs-at, word-of}
 use Rattle.chip.specs.Layout.{segment, switchAt, goldenAt}

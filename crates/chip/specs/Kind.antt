@@ -5,11 +5,11 @@ use mathlib.Core.Bool.{Bool, true, false}
 use mathlib.Core.List.{List, [], _∷_, _++_}
 use lib.ListN.{length, getD}
 use Rattle.framing.specs.Search.{starts}
-use Rattle.bootreader.specs.Reading.{readChip, readAlone, listed}
+use Rattle.configreader.specs.Reading.{readChip, readAlone, listed}
 use Rattle.packets.specs.Trace.{contents}
 use Rattle.bootreader.specs.Answers.{lengthAllowed}
-use Rattle.bootreader.specs.declared.reader.Outcome.{Outcome}
-use Rattle.bootreader.specs.declared.reader.Outcome.the-variants.{Loaded}
+use Rattle.configreader.specs.declared.Outcome.{Outcome}
+use Rattle.configreader.specs.declared.Outcome.the-variants.{Loaded}
 use Rattle.packets.specs.declared.trace.Write.{Write}
 use Rattle.chip.specs.Layout.{segment, switchAt, goldenAt, updateAllowed}
 use Rattle.flash.specs.Flash.{erased, span, bit}

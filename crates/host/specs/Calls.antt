@@ -12,11 +12,12 @@ use Rattle.builder.specs.Builder.{buildAnswer, buildOutput}
 use Rattle.chip.specs.declared.kind.Layout.{Layout}
 use Rattle.builder.specs.declared.BuildAnswer.the-variants.{Refused as BuildRefused}
 use Rattle.chip.specs.Kind.{spi}
-use Rattle.updater.specs.Answers.{startAnswer, totalAnswer, orderRefused, orderAnswer, replyAnswer, finishedAnswer}
+use Rattle.starts.specs.Starts.{startAnswer, totalAnswer}
+use Rattle.updater.specs.Answers.{orderRefused, orderAnswer, replyAnswer, finishedAnswer}
 use Rattle.bench.specs.Bench.{benchLayout, benchAnswer, benchOutput}
 use Rattle.updater.specs.declared.run.State.{State}
-use Rattle.updater.specs.declared.run.StartAnswer.the-variants.{Refused as StartRefused}
-use Rattle.updater.specs.declared.run.TotalAnswer.the-variants.{Refused as TotalRefused}
+use Rattle.starts.specs.declared.StartAnswer.the-variants.{Refused as StartRefused}
+use Rattle.starts.specs.declared.TotalAnswer.the-variants.{Refused as TotalRefused}
 use Rattle.updater.specs.declared.run.ReplyAnswer.the-variants.{Refused as ReplyRefused}
 use Rattle.updater.specs.declared.run.FinishedAnswer.the-variants.{Refused as FinishedRefused}
 use Rattle.bench.specs.declared.BenchAnswer.the-variants.{Refused as BenchRefused}

@@ -18,12 +18,13 @@ use results::run::reply_result;
 use results::run::start_result;
 use results::run::state_of;
 use results::run::total_result;
-use updater::run;
+use starts::StartAnswer;
+use starts::TotalAnswer;
+use starts::start;
+use starts::total;
 use updater::run::Asked;
 use updater::run::FinishedAnswer;
 use updater::run::ReplyAnswer;
-use updater::run::StartAnswer;
-use updater::run::TotalAnswer;
 
 // Starts a run.
 #[no_mangle]
@@ -42,7 +43,7 @@ pub extern "C" fn tealsettle_start(
             place: 0,
         });
     }
-    start_result(run::start(Spi::layout(length, update, area), image))
+    start_result(start(Spi::layout(length, update, area), image))
 }
 
 // How many orders a run has with an image of so many bytes.
@@ -62,7 +63,7 @@ pub extern "C" fn tealsettle_total(
             place: 0,
         });
     }
-    total_result(run::total(Spi::layout(length, update, area), n))
+    total_result(total(Spi::layout(length, update, area), n))
 }
 
 // The order that a state asks for.

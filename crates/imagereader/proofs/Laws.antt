@@ -7,12 +7,12 @@ use native.Mathlib.Omega.{arith}
 use lib.ListN.{length, take}
 use lib.Seq.{take-all}
 use denote.Ref.{RefT, now}
-use Rattle.bootreader.specs.Reading.{readAlone, listed}
+use Rattle.configreader.specs.Reading.{readAlone, listed}
 use Rattle.packets.specs.Trace.{nthWrite}
 use Rattle.writes.specs.Cursor.{cursorAt, rest, stepOf, told}
 use Rattle.bootreader.specs.Answers.{cursorOf, longestImage, imageAnswer, imageWrite}
-use Rattle.bootreader.specs.declared.reader.Outcome.{Outcome}
-use Rattle.bootreader.specs.declared.reader.Outcome.the-variants.{Loaded}
+use Rattle.configreader.specs.declared.Outcome.{Outcome}
+use Rattle.configreader.specs.declared.Outcome.the-variants.{Loaded}
 use Rattle.bootreader.specs.declared.image.ImageAnswer.{ImageAnswer}
 use Rattle.bootreader.specs.declared.image.ImageAnswer.the-variants.{Accepted, Refused}
 use Rattle.packets.specs.declared.trace.Write.{Write}

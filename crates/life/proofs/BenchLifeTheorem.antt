@@ -7,15 +7,15 @@ use Rattle.base.specs.Question.{ask}
 use Rattle.base.proofs.Laws.{asked}
 use Rattle.chip.specs.Kind.{Kind, Lawful}
 use Rattle.updater.specs.Orders.{orders}
-use Rattle.updater.specs.Answers.{startAnswer}
+use Rattle.starts.specs.Starts.{startAnswer}
 use Rattle.bench.specs.Bench.{cutAllowed, chipAfter, stateAt, benchAnswer, benchOutput}
 use Rattle.life.specs.Life.{fresh, Valid, life}
 use Rattle.life.specs.BenchLife.{benchRun, BenchLives}
-use Rattle.updater.specs.declared.run.StartAnswer.{StartAnswer}
-use Rattle.updater.specs.declared.run.StartAnswer.the-variants.{Started, Refused as StartRefused}
+use Rattle.starts.specs.declared.StartAnswer.{StartAnswer}
+use Rattle.starts.specs.declared.StartAnswer.the-variants.{Started, Refused as StartRefused}
 use Rattle.bench.specs.declared.BenchAnswer.{BenchAnswer}
 use Rattle.bench.specs.declared.BenchAnswer.the-variants.{Reached, Refused}
-use Rattle.updater.proofs.Laws.{opened}
+use Rattle.starts.proofs.Laws.{opened}
 use Rattle.bench.proofs.Laws.{onStart, by-start}
 use Rattle.life.proofs.UncutLaws.{cut-run}
 

@@ -6,10 +6,11 @@ use mathlib.Core.List.{List}
 use Prim.Native.Nat.{ℕ}
 use Rattle.chip.specs.Kind.{Kind}
 use Rattle.chip.specs.declared.kind.Layout.{Layout}
-use Rattle.updater.specs.Answers.{startAnswer, replyAnswer}
+use Rattle.starts.specs.Starts.{startAnswer}
+use Rattle.updater.specs.Answers.{replyAnswer}
 use Rattle.life.specs.Life.{Run, World, found, starts, replies, cuts, afterStart, afterReply, onRun, next}
 use Rattle.updater.specs.declared.run.State.{State}
-use Rattle.updater.specs.declared.run.StartAnswer.the-variants.{Started, Refused as StartRefused}
+use Rattle.starts.specs.declared.StartAnswer.the-variants.{Started, Refused as StartRefused}
 use Rattle.updater.specs.declared.run.ReplyAnswer.the-variants.{Refused}
 
 module _ (kind : Kind) (w : World) where

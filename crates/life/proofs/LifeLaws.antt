@@ -23,15 +23,17 @@ use Rattle.updater.specs.Run.{byPhase, count, after, ended, running, fits}
 use Rattle.updater.specs.Orders.{Order, erase, program, look, pageOf, orderOf}
 use Rattle.comparison.specs.Comparison.{filled, differs}
 use Rattle.bench.specs.Effects.{obeyedSpan, leaves}
-use Rattle.updater.specs.Answers.{startAnswer, stopOf, replyAnswer}
+use Rattle.starts.specs.Starts.{startAnswer}
+use Rattle.updater.specs.Answers.{stopOf, replyAnswer}
 use Rattle.life.specs.OrderList.{Replies, Moved}
 use Rattle.life.specs.Life.{Run, World, found, starts, carries, replies, cuts, Event, afterStart, agrees, lookSeen, orderedImage, carryOut, afterReply, orderOfRun, onRun, next, MayStart, MayBeLeft, MayOrder, TrueRead, Honest, MayReply, May, Valid, life, isOn, Standing}
 use Rattle.updater.specs.declared.run.State.{State}
-use Rattle.updater.specs.declared.run.StartAnswer.{StartAnswer}
-use Rattle.updater.specs.declared.run.StartAnswer.the-variants.{Started, Refused as StartRefused}
+use Rattle.starts.specs.declared.StartAnswer.{StartAnswer}
+use Rattle.starts.specs.declared.StartAnswer.the-variants.{Started, Refused as StartRefused}
 use Rattle.updater.specs.declared.run.ReplyAnswer.{ReplyAnswer}
 use Rattle.updater.specs.declared.run.ReplyAnswer.the-variants.{Next, Stopped, Refused}
-use Rattle.updater.proofs.Laws.{phases, Numbers, numbers-image, fits-says, running-says, area-segments, image-pages, after-index, after-phase, last-or-not, after-fits, first-fits, current-order, page-at, opened}
+use Rattle.updater.proofs.Laws.{phases, Numbers, numbers-image, fits-says, running-says, area-segments, image-pages, after-index, after-phase, last-or-not, after-fits, first-fits, current-order, page-at}
+use Rattle.starts.proofs.Laws.{opened}
 use Rattle.comparison.proofs.Laws.{filled-at, filled-length, none-same}
 use Rattle.life.proofs.ReplyLaws.{moved, halted}
 

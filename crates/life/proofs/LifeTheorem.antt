@@ -7,17 +7,17 @@ use mathlib.Core.List.{List}
 use native.Mathlib.Omega.{arith}
 use borrow.Author.Tests.{eqb-true}
 use lib.ListN.{length}
-use Rattle.bootreader.specs.declared.reader.Outcome.the-variants.{Loaded}
+use Rattle.configreader.specs.declared.Outcome.the-variants.{Loaded}
 use Rattle.base.proofs.Laws.{false-true}
 use Rattle.chip.specs.Layout.{goldenAt}
 use Rattle.chip.specs.Kind.{Kind, goldenArea, Loads, Good, Stands, Lawful}
 use Rattle.chip.specs.declared.kind.Layout.{Layout}
-use Rattle.updater.specs.Answers.{startAnswer}
+use Rattle.starts.specs.Starts.{startAnswer}
 use Rattle.life.specs.Life.{Run, World, onRun, Event, Valid, life, isOn, uncut, Loading, Updates, OrderedLoads, Claim, Begins, Demand3}
 use Rattle.bench.specs.Effects.{Bytes}
 use Rattle.updater.specs.declared.run.State.{State}
-use Rattle.updater.specs.declared.run.StartAnswer.the-variants.{Started}
-use Rattle.updater.proofs.Laws.{opened}
+use Rattle.starts.specs.declared.StartAnswer.the-variants.{Started}
+use Rattle.starts.proofs.Laws.{opened}
 use Rattle.life.proofs.LifeLaws.{Holds, Invariant, lives}
 use Rattle.life.proofs.UncutLaws.{uncut-run}
 

@@ -15,16 +15,18 @@ use Rattle.chip.specs.declared.kind.Layout.{Layout}
 use Rattle.updater.specs.Run.{byPhase, count, before, total, position, first, after, ended, running, fits}
 use Rattle.updater.specs.Orders.{Order, erase, program, look, orderOf, orders, currentOrder}
 use Rattle.bench.specs.Effects.{placeOf, obeyedSpan, obeyed, obeyedAll, spanOf, Bytes}
-use Rattle.updater.specs.Answers.{startAnswer, replyAnswer}
+use Rattle.starts.specs.Starts.{startAnswer}
+use Rattle.updater.specs.Answers.{replyAnswer}
 use Rattle.bench.specs.Bench.{cutAllowed, cutIn}
 use Rattle.life.specs.BenchLife.{cutEvents, benchEvents}
 use Rattle.life.specs.Life.{Run, World, Event, starts, carries, replies, afterStart, orderedImage, carryOut, afterReply, onRun, next, MayStart, TrueRead, MayReply, May, Valid, life, isOn, saidTo, readBy, obeying, uncut}
 use Rattle.updater.specs.declared.run.State.{State}
-use Rattle.updater.specs.declared.run.StartAnswer.{StartAnswer}
-use Rattle.updater.specs.declared.run.StartAnswer.the-variants.{Started}
+use Rattle.starts.specs.declared.StartAnswer.{StartAnswer}
+use Rattle.starts.specs.declared.StartAnswer.the-variants.{Started}
 use Rattle.updater.specs.declared.run.ReplyAnswer.{ReplyAnswer}
 use Rattle.updater.specs.declared.run.ReplyAnswer.the-variants.{Next}
-use Rattle.updater.proofs.Laws.{Numbers, running-says, after-index, after-phase, last-or-not, after-fits, after-position, position-running, position-ended, first-fits, current-order, orders-left, orders-ended, starts as start-accepted}
+use Rattle.updater.proofs.Laws.{Numbers, running-says, after-index, after-phase, last-or-not, after-fits, after-position, position-running, position-ended, first-fits, current-order, orders-left, orders-ended}
+use Rattle.starts.proofs.Laws.{starts as start-accepted}
 use Rattle.life.proofs.ReplyLaws.{moves}
 use Rattle.life.proofs.ObeyLaws.{Obeys}
 use Rattle.bench.proofs.Laws.{order-within}

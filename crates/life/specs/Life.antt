@@ -15,10 +15,11 @@ use Rattle.updater.specs.Run.{running, first, ended}
 use Rattle.updater.specs.Orders.{Order, erase, program, look, orders, currentOrder}
 use Rattle.comparison.specs.Comparison.{differs}
 use Rattle.bench.specs.Effects.{obeyedSpan, leaves, obeyed, Bytes}
-use Rattle.updater.specs.Answers.{startAnswer, replyAnswer, done, read}
+use Rattle.starts.specs.Starts.{startAnswer}
+use Rattle.updater.specs.Answers.{replyAnswer, done, read}
 use Rattle.updater.specs.declared.run.State.{State}
-use Rattle.updater.specs.declared.run.StartAnswer.{StartAnswer}
-use Rattle.updater.specs.declared.run.StartAnswer.the-variants.{Started, Refused as StartRefused}
+use Rattle.starts.specs.declared.StartAnswer.{StartAnswer}
+use Rattle.starts.specs.declared.StartAnswer.the-variants.{Started, Refused as StartRefused}
 use Rattle.updater.specs.declared.run.ReplyAnswer.{ReplyAnswer}
 use Rattle.updater.specs.declared.run.ReplyAnswer.the-variants.{Next, Stopped, Refused}
 

@@ -10,11 +10,11 @@ use lib.ListN.{length, drop, length-append}
 use lib.Dec.{leb}
 use lib.Seq.{paste, take-all}
 use Rattle.base.specs.Question.{ask}
-use Rattle.bootreader.specs.Reading.{readChip, listed}
+use Rattle.configreader.specs.Reading.{readChip, listed}
 use Rattle.writes.specs.Cursor.{rest}
 use Rattle.bootreader.specs.Answers.{lengthAllowed, bootCase, bootAnswer, chipListing, cursorOf}
-use Rattle.bootreader.specs.declared.reader.Outcome.{Outcome}
-use Rattle.bootreader.specs.declared.reader.Outcome.the-variants.{Loaded, Iprog, Stuck}
+use Rattle.configreader.specs.declared.Outcome.{Outcome}
+use Rattle.configreader.specs.declared.Outcome.the-variants.{Loaded, Iprog, Stuck}
 use Rattle.bootreader.specs.declared.chip.BootAnswer.{BootAnswer}
 use Rattle.bootreader.specs.declared.chip.BootAnswer.the-variants.{Loaded as Boots, Stuck as IsStuck, Refused as BootRefused}
 use Rattle.packets.specs.declared.trace.Write.{Write}

@@ -1,9 +1,9 @@
 -- The report of a chip. Document 01, "Proof cases": the program `bootreport`.
 use Prim.Native.Nat.{ℕ}
 use mathlib.Core.List.{List, _++_}
-use Rattle.bootreader.specs.Reading.{readChip, listed}
-use Rattle.bootreader.specs.declared.reader.Outcome.{Outcome}
-use Rattle.bootreader.specs.declared.reader.Outcome.the-variants.{Loaded, Iprog, Stuck}
+use Rattle.configreader.specs.Reading.{readChip, listed}
+use Rattle.configreader.specs.declared.Outcome.{Outcome}
+use Rattle.configreader.specs.declared.Outcome.the-variants.{Loaded, Iprog, Stuck}
 use Rattle.reportlines.specs.Lines.{loadedLine, writeLines, endLine, stuckLine}
 
 -- the report of a chip whose reading came to this

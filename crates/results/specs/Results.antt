@@ -15,10 +15,10 @@ use Rattle.chip.specs.Answers.{layoutOf}
 use Rattle.builder.specs.declared.BuildAnswer.{BuildAnswer}
 use Rattle.builder.specs.declared.BuildAnswer.the-variants.{Built, Refused as BuildRefused}
 use Rattle.updater.specs.declared.run.State.{State}
-use Rattle.updater.specs.declared.run.StartAnswer.{StartAnswer}
-use Rattle.updater.specs.declared.run.StartAnswer.the-variants.{Started, Refused as StartRefused}
-use Rattle.updater.specs.declared.run.TotalAnswer.{TotalAnswer}
-use Rattle.updater.specs.declared.run.TotalAnswer.the-variants.{Total, Refused as TotalRefused}
+use Rattle.starts.specs.declared.StartAnswer.{StartAnswer}
+use Rattle.starts.specs.declared.StartAnswer.the-variants.{Started, Refused as StartRefused}
+use Rattle.starts.specs.declared.TotalAnswer.{TotalAnswer}
+use Rattle.starts.specs.declared.TotalAnswer.the-variants.{Total, Refused as TotalRefused}
 use Rattle.updater.specs.declared.orders.Operation.{Operation}
 use Rattle.updater.specs.declared.orders.Operation.the-variants.{Erase, Program, Look}
 use Rattle.updater.specs.declared.run.Asked.{Asked}

@@ -4,13 +4,13 @@ ghost use mathlib.Core.Path.{_≡_};
 ghost use mathlib.Core.List.{List};
 ghost use Rattle.results.specs.Results.{stateOf, stateResult, noState, startResult, totalResult, orderWith, orderedResult, orderResult, replyResult, finishedResult};
 use chip::kind::Spi;
+use starts::StartAnswer;
+use starts::TotalAnswer;
 use updater::orders::Operation;
 use updater::run::Asked;
 use updater::run::FinishedAnswer;
 use updater::run::ReplyAnswer;
-use updater::run::StartAnswer;
 use updater::run::State;
-use updater::run::TotalAnswer;
 
 // Where a run is.
 #[repr(C)]

@@ -11,23 +11,19 @@ use lib.ListN.{length, take, drop, length-take, length-drop, drop-of-length-le}
 use lib.Seq.{take-all}
 use Rattle.base.specs.Question.{ask}
 use Rattle.base.proofs.Laws.{both-true}
-use Rattle.bootreader.specs.Answers.{imageLength, imageWithin}
-use Rattle.bootreader.specs.declared.image.ImageAnswer.{ImageAnswer}
-use Rattle.bootreader.proofs.Laws.{onAnswer, by-answer, length-allowed}
+use Rattle.bootreader.specs.Answers.{imageLength}
+use Rattle.bootreader.proofs.Laws.{length-allowed}
 use Rattle.chip.specs.Layout.{page}
 use Rattle.chip.specs.Kind.{spi}
 use Rattle.chip.specs.Answers.{layoutAnswer}
 use Rattle.chip.specs.declared.kind.Layout.{Layout}
 use Rattle.chip.specs.declared.kind.LayoutAnswer.{LayoutAnswer}
 use Rattle.chip.proofs.Laws.{area-allowed, onLayout, by-layout}
-use Rattle.updater.specs.Run.{byPhase, count, total, first, after, ended, running, stands, fits}
+use Rattle.updater.specs.Run.{byPhase, count, after, ended, running, stands, fits}
 use Rattle.updater.specs.Orders.{Order, erase, program, look, pageOf, orderOf, currentOrder, operationOf, programmed, lookedFor}
 use Rattle.comparison.specs.Comparison.{differs, comparison}
-use Rattle.updater.specs.Answers.{askRun, startAnswer, totalAnswer, done, read, asksFor, stopOf, compared, repliedTo}
+use Rattle.updater.specs.Answers.{done, read, asksFor, stopOf, compared, repliedTo}
 use Rattle.updater.specs.declared.run.State.{State}
-use Rattle.updater.specs.declared.run.StartAnswer.{StartAnswer}
-use Rattle.updater.specs.declared.run.StartAnswer.the-variants.{Started, Refused as StartRefused}
-use Rattle.updater.specs.declared.run.TotalAnswer.the-variants.{Total, Refused as TotalRefused}
 use Rattle.updater.specs.declared.orders.Operation.{Operation}
 use Rattle.updater.specs.declared.orders.Operation.the-variants.{Erase, Program, Look}
 use Rattle.comparison.specs.declared.Comparison.{Comparison}
@@ -65,23 +61,7 @@ stop-none (suc (suc (suc (suc (suc zero))))) b e g = refl
 stop-none (suc (suc (suc (suc (suc (suc zero)))))) b e g = absurd (g refl)
 stop-none (suc (suc (suc (suc (suc (suc (suc phase))))))) b e g = refl
 
--- A start goes by the answers to the layout and to the image.
-abbrev opened : Layout → List ℕ → ImageAnswer → StartAnswer
-opened layout image a = onAnswer StartRefused (λ sync end writes. Started (first layout (length image))) a
-
-pub start-by : (layout : Layout) (image : List ℕ) (l : LayoutAnswer) (a : ImageAnswer) → layoutAnswer layout ≡ l → imageWithin (layout .area) image ≡ a →
-    onLayout StartRefused (opened layout image a) l ≡ startAnswer spi layout image
-unfolding startAnswer askRun
-start-by layout image l a p q =
-    rw (sym p, sym q) (ap (λ (rest : StartAnswer). onLayout StartRefused rest (layoutAnswer layout)) (by-answer StartRefused (λ sync end writes. Started (first layout (length image))) (layout .area) image) ∙ by-layout StartRefused _ layout)
-
--- So does a total,
-pub total-by : (layout : Layout) (n : ℕ) (l : LayoutAnswer) → layoutAnswer layout ≡ l →
-    onLayout TotalRefused (ask (imageLength (layout .area) n) (TotalRefused 4 0) (Total (total layout n))) l ≡ totalAnswer layout n
-unfolding totalAnswer
-total-by layout n l p = rw (sym p) (by-layout TotalRefused _ layout)
-
--- and question 6.
+-- Question 6 goes by the answer to the layout.
 pub fits-by : (state : State) (lent : ℕ) (l : LayoutAnswer) → layoutAnswer (state .layout) ≡ l →
     onLayout (λ number place. false) (ask (imageLength (state .layout .area) (state .length)) false (ask (stands state) false (eqb (state .length) lent))) l ≡ fits state lent
 unfolding fits

@@ -6,40 +6,19 @@ use mathlib.Core.List.{List}
 use lib.Dec.{eqb}
 use lib.ListN.{length}
 use Rattle.base.specs.Question.{ask}
-use Rattle.bootreader.specs.Answers.{imageLength, aloneCase}
-use Rattle.chip.specs.Layout.{page, askLayout}
+use Rattle.chip.specs.Layout.{page}
 use Rattle.flash.specs.Flash.{erased}
 use Rattle.chip.specs.Kind.{Kind}
-use Rattle.chip.specs.declared.kind.Layout.{Layout}
-use Rattle.updater.specs.Run.{byPhase, total, first, after, ended, running, fits}
+use Rattle.updater.specs.Run.{byPhase, after, ended, running, fits}
 use Rattle.updater.specs.Orders.{Order, erase, program, look, currentOrder, operationOf, orderBytes}
 use Rattle.comparison.specs.Comparison.{differs}
 use Rattle.updater.specs.declared.run.State.{State}
-use Rattle.updater.specs.declared.run.StartAnswer.{StartAnswer}
-use Rattle.updater.specs.declared.run.StartAnswer.the-variants.{Started, Refused as StartRefused}
-use Rattle.updater.specs.declared.run.TotalAnswer.{TotalAnswer}
-use Rattle.updater.specs.declared.run.TotalAnswer.the-variants.{Total, Refused as TotalRefused}
 use Rattle.updater.specs.declared.run.FinishedAnswer.{FinishedAnswer}
 use Rattle.updater.specs.declared.run.FinishedAnswer.the-variants.{Running, Ended, Refused as FinishedRefused}
 use Rattle.updater.specs.declared.run.Asked.the-variants.{Ordered, Refused as OrderRefused}
 use Rattle.updater.specs.declared.run.OrderAnswer.{OrderAnswer}
 use Rattle.updater.specs.declared.run.ReplyAnswer.{ReplyAnswer}
 use Rattle.updater.specs.declared.run.ReplyAnswer.the-variants.{Next, Stopped, Refused}
-
--- Questions 1 to 3, 4 for the area A, and 5, and what is asked next. The image is read as the chip's kind reads it.
-unfoldable pub askRun {ℓ} : {A : Type ℓ} → Kind → (ℕ → ℕ → A) → Layout → List ℕ → A → A
-askRun kind refused layout image rest =
-    askLayout refused layout
-    (ask (imageLength (layout .area) (length image)) (refused 4 0)
-    (aloneCase refused (λ sync end writes. rest) (kind .alone image)))
-
--- `run::start`: questions 1 to 5 (refusals 1 to 6), then the first state
-unfoldable pub startAnswer : Kind → Layout → List ℕ → StartAnswer
-startAnswer kind layout image = askRun kind StartRefused layout image (Started (first layout (length image)))
-
--- `run::total`: questions 1 to 4, then the number of orders
-unfoldable pub totalAnswer : Layout → ℕ → TotalAnswer
-totalAnswer layout n = askLayout TotalRefused layout (ask (imageLength (layout .area) n) (TotalRefused 4 0) (Total (total layout n)))
 
 -- `State::finished`: 7 for a state that does not fit (no image is lent), then whether the run has ended
 unfoldable pub finishedCase : Bool → State → FinishedAnswer

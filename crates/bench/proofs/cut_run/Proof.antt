@@ -12,14 +12,15 @@ use Rattle.chip.specs.declared.kind.Layout.{Layout}
 use Rattle.chip.proofs.Laws.{spi-lawful}
 use Rattle.updater.specs.Run.{first, fits}
 use Rattle.updater.specs.Orders.{orders}
-use Rattle.updater.specs.Answers.{startAnswer}
+use Rattle.starts.specs.Starts.{startAnswer}
 use Rattle.bench.specs.Bench.{cutAllowed, chipAfter, stateAt, benchAnswer, benchOutput}
 use Rattle.updater.specs.declared.run.State.{State}
-use Rattle.updater.specs.declared.run.StartAnswer.{StartAnswer}
-use Rattle.updater.specs.declared.run.StartAnswer.the-variants.{Started}
+use Rattle.starts.specs.declared.StartAnswer.{StartAnswer}
+use Rattle.starts.specs.declared.StartAnswer.the-variants.{Started}
 use Rattle.bench.specs.declared.BenchAnswer.{BenchAnswer}
 use Rattle.bench.specs.declared.BenchAnswer.the-variants.{Reached, Refused}
-use Rattle.updater.proofs.Laws.{first-fits, opened}
+use Rattle.updater.proofs.Laws.{first-fits}
+use Rattle.starts.proofs.Laws.{opened}
 use Rattle.bench.proofs.BenchLaws.{onStart, by-start}
 use Rattle.bench.proofs.cut_run.Statement.{statement}
 use Rattle.bench.proofs.cut_run.Tie as tie

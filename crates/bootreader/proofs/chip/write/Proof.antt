@@ -2,16 +2,16 @@
 use borrow.Author.Tests.{not-true, not-false}
 use mathlib.Core.Bool.{false}
 use mathlib.Core.Logic.{⊎-elim}
-use Rattle.bootreader.specs.declared.reader.Outcome.{Outcome}
-use Rattle.bootreader.specs.declared.reader.Outcome.the-variants.{Loaded, Iprog, Stuck}
+use Rattle.configreader.specs.declared.Outcome.{Outcome}
+use Rattle.configreader.specs.declared.Outcome.the-variants.{Loaded, Iprog, Stuck}
 use Rattle.packets.specs.declared.trace.WriteAnswer.the-variants.{Nothing}
 use mathlib.Core.Path.{_≡_, refl, sym, _∙_}
 use native.Mathlib.Omega.{arith}
 use Rattle.base.specs.Question.{ask}
-use Rattle.bootreader.specs.Reading.{listed}
+use Rattle.configreader.specs.Reading.{listed}
 use Rattle.packets.specs.Trace.{nthWrite}
 use Rattle.bootreader.specs.Answers.{chipWrite}
-use Rattle.bootreader.proofs.ReadingLaws.{Proper, proper}
+use Rattle.configreader.proofs.Laws.{Proper, proper}
 use borrow.Author.Needs.{needs}
 use Rattle.bootreader.proofs.chip.write.Statement.{statement}
 use Rattle.bootreader.proofs.chip.write.Tie as tie

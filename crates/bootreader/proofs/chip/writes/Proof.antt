@@ -2,14 +2,14 @@
 use borrow.Author.Tests.{not-true, not-false}
 use mathlib.Core.Bool.{false}
 use mathlib.Core.Logic.{⊎-elim}
-use Rattle.bootreader.specs.declared.reader.Outcome.{Outcome}
-use Rattle.bootreader.specs.declared.reader.Outcome.the-variants.{Loaded, Iprog, Stuck}
+use Rattle.configreader.specs.declared.Outcome.{Outcome}
+use Rattle.configreader.specs.declared.Outcome.the-variants.{Loaded, Iprog, Stuck}
 use Rattle.writes.specs.declared.cursor.Listing.the-variants.{Open}
 use mathlib.Core.Path.{_≡_, refl, sym, ap, _∙_}
 use native.Mathlib.Omega.{arith}
 use Rattle.base.specs.Question.{ask}
 use Rattle.bootreader.specs.Answers.{chipListing, cursorOf}
-use Rattle.bootreader.proofs.ReadingLaws.{Proper, proper}
+use Rattle.configreader.proofs.Laws.{Proper, proper}
 use borrow.Author.Needs.{needs}
 use Rattle.bootreader.proofs.chip.writes.Statement.{statement}
 use Rattle.bootreader.proofs.chip.writes.Tie as tie

@@ -3,8 +3,8 @@ use borrow.Author.Tests.{not-true, not-false}
 use mathlib.Core.Path.{_≡_, refl, sym, ap₂, _∙_}
 use mathlib.Core.Logic.{⊎-elim}
 use native.Mathlib.Omega.{arith}
-use Rattle.bootreader.specs.declared.reader.Outcome.{Outcome}
-use Rattle.bootreader.specs.declared.reader.Outcome.the-variants.{Loaded, Iprog, Stuck}
+use Rattle.configreader.specs.declared.Outcome.{Outcome}
+use Rattle.configreader.specs.declared.Outcome.the-variants.{Loaded, Iprog, Stuck}
 use Rattle.bootreader.specs.declared.image.ImageAnswer.the-variants.{Refused}
 use Rattle.base.specs.Question.{ask}
 use Rattle.bootreader.specs.Answers.{imageWithin, aloneCase}

@@ -1,7 +1,7 @@
 -- `tealsettle_start` meets its contract.
 use Rattle.results.specs.Results.{startResult}
 use Rattle.base.specs.Question.{ask}
-use Rattle.updater.specs.Answers.{startAnswer}
+use Rattle.starts.specs.Starts.{startAnswer}
 use Rattle.chip.specs.Kind.{spi}
 use borrow.Author.Tests.{not-true, not-false}
 use mathlib.Core.Path.{sym, ap, _∙_}

@@ -1,7 +1,7 @@
 -- `tealsettle_total` meets its contract.
 use Rattle.results.specs.Results.{totalResult}
 use Rattle.base.specs.Question.{ask}
-use Rattle.updater.specs.Answers.{totalAnswer}
+use Rattle.starts.specs.Starts.{totalAnswer}
 use borrow.Author.Tests.{not-true, not-false}
 use mathlib.Core.Path.{sym, ap, _∙_}
 use borrow.Author.Needs.{needs}

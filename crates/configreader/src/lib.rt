@@ -1,9 +1,10 @@
-// From sync to sync: the search hands over to the reading of packets, and a jump hands back to the
-// search. The number of jumps left falls.
+// The configuration reader, from sync to sync: the search hands over to the reading of packets, and a jump hands
+// back to the search. The number of jumps left falls. The calls on a chip and on an image stand above, in
+// `bootreader`.
 ghost use mathlib.Core.Path.{_≡_};
 ghost use Prim.Native.Nat.{_+_, _≤_};
 ghost use lib.ListN.{length};
-ghost use Rattle.bootreader.specs.Reading.{readFrom, readAt, jump, readChip, readAlone};
+ghost use Rattle.configreader.specs.Reading.{readFrom, readAt, jump, readChip, readAlone};
 use framing::search::Found;
 use framing::search::find_sync;
 use packets::trace::Finish;
@@ -29,14 +30,14 @@ pub enum Outcome {
 }
 
 // A chip is read from byte 0, with one jump at most.
-pub(crate) fn read_chip(chip: &[u8]) -> Outcome
+pub fn read_chip(chip: &[u8]) -> Outcome
     ensures { λ r. ⌜ r ≡ readChip (now (chip .entry)) ⌝ }
 {
     search(chip, 0, 1, false)
 }
 
 // An image read alone has no jump.
-pub(crate) fn read_alone(image: &[u8]) -> Outcome
+pub fn read_alone(image: &[u8]) -> Outcome
     ensures { λ r. ⌜ r ≡ readAlone (now (image .entry)) ⌝ }
 {
     search(image, 0, 0, false)

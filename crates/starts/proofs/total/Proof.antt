@@ -1,10 +1,10 @@
 -- `run::total` meets its contract.
 use mathlib.Core.Path.{sym, _∙_}
 use Rattle.chip.proofs.Laws.{onLayout}
-use Rattle.updater.proofs.CallLaws.{total-by}
+use Rattle.starts.proofs.StartLaws.{total-by}
 use borrow.Author.Needs.{needs}
-use Rattle.updater.proofs.run.total.Statement.{statement}
-use Rattle.updater.proofs.run.total.Tie as tie
+use Rattle.starts.proofs.total.Statement.{statement}
+use Rattle.starts.proofs.total.Tie as tie
 
 check-requires : tie.Need-check-requires
 check-requires c κs = search needs

@@ -8,8 +8,8 @@ use Rattle.framing.specs.Search.{find}
 use Rattle.packets.specs.Trace.{finishFrom, writesFrom}
 use Rattle.framing.specs.declared.search.Found.the-variants.{At, Nothing as NoSync}
 use Rattle.packets.specs.declared.trace.Finish.the-variants.{Ended, Iprog, Fault, Short}
-use Rattle.bootreader.specs.declared.reader.Outcome.{Outcome}
-use Rattle.bootreader.specs.declared.reader.Outcome.the-variants.{Loaded, Iprog as NoJump, Stuck}
+use Rattle.configreader.specs.declared.Outcome.{Outcome}
+use Rattle.configreader.specs.declared.Outcome.the-variants.{Loaded, Iprog as NoJump, Stuck}
 use Rattle.packets.specs.declared.trace.Write.{Write}
 
 -- What a reading from a sync comes to, given what an IPROG at a place with a target does. A word not complete before the end is a fault at the length read.

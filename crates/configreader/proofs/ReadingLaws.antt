@@ -10,13 +10,13 @@ use lib.Dec.{ltb}
 use lib.ListN.{length, drop, length-drop}
 use Rattle.framing.specs.Search.{find}
 use Rattle.packets.specs.Trace.{finishFrom}
-use Rattle.bootreader.specs.Reading.{readAt, searchFrom, jump, readFrom}
+use Rattle.configreader.specs.Reading.{readAt, searchFrom, jump, readFrom}
 use Rattle.framing.specs.declared.search.Found.{Found}
 use Rattle.framing.specs.declared.search.Found.the-variants.{At, Nothing as NoSync}
 use Rattle.packets.specs.declared.trace.Finish.{Finish}
 use Rattle.packets.specs.declared.trace.Finish.the-variants.{Ended, Iprog, Fault, Short}
-use Rattle.bootreader.specs.declared.reader.Outcome.{Outcome}
-use Rattle.bootreader.specs.declared.reader.Outcome.the-variants.{Loaded, Iprog as NoJump, Stuck}
+use Rattle.configreader.specs.declared.Outcome.{Outcome}
+use Rattle.configreader.specs.declared.Outcome.the-variants.{Loaded, Iprog as NoJump, Stuck}
 use Rattle.framing.proofs.Laws.{find-within}
 
 -- Each way that a reading goes, one law.

@@ -1,11 +1,11 @@
 -- `run::start_allowed` meets its contract.
 use mathlib.Core.Path.{sym, _∙_}
-use Rattle.updater.proofs.CallLaws.{start-by}
+use Rattle.starts.proofs.StartLaws.{start-by}
 use Rattle.bootreader.proofs.Laws.{onAnswer}
 use Rattle.chip.proofs.Laws.{onLayout}
 use borrow.Author.Needs.{needs}
-use Rattle.updater.proofs.run.start_allowed.Statement.{statement}
-use Rattle.updater.proofs.run.start_allowed.Tie as tie
+use Rattle.starts.proofs.start_allowed.Statement.{statement}
+use Rattle.starts.proofs.start_allowed.Tie as tie
 
 check-within-requires : tie.Need-check-within-requires
 check-within-requires c κs = search needs

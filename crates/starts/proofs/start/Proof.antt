@@ -1,10 +1,10 @@
 -- `run::start` meets its contract.
 use mathlib.Core.Path.{refl, sym, _∙_}
-use Rattle.updater.proofs.CallLaws.{start-by}
+use Rattle.starts.proofs.StartLaws.{start-by}
 use Rattle.chip.proofs.Laws.{onLayout}
 use borrow.Author.Needs.{needs}
-use Rattle.updater.proofs.run.start.Statement.{statement}
-use Rattle.updater.proofs.run.start.Tie as tie
+use Rattle.starts.proofs.start.Statement.{statement}
+use Rattle.starts.proofs.start.Tie as tie
 
 check-requires : tie.Need-check-requires
 check-requires c κs = search needs

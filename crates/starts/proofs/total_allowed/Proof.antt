@@ -5,12 +5,12 @@ use borrow.Author.Tests.{not-true, not-false}
 use Rattle.base.specs.Question.{ask}
 use Rattle.bootreader.proofs.Laws.{length-allowed}
 use Rattle.chip.proofs.Laws.{onLayout, area-allowed, allowed-asks}
-use Rattle.updater.specs.declared.run.TotalAnswer.the-variants.{Total}
-use Rattle.updater.proofs.RunLaws.{total-is, image-most}
-use Rattle.updater.proofs.CallLaws.{total-by}
+use Rattle.starts.specs.declared.TotalAnswer.the-variants.{Total}
+use Rattle.updater.proofs.Laws.{total-is, image-most}
+use Rattle.starts.proofs.StartLaws.{total-by}
 use borrow.Author.Needs.{needs}
-use Rattle.updater.proofs.run.total_allowed.Statement.{statement}
-use Rattle.updater.proofs.run.total_allowed.Tie as tie
+use Rattle.starts.proofs.total_allowed.Statement.{statement}
+use Rattle.starts.proofs.total_allowed.Tie as tie
 
 length-allowed-requires : tie.Need-length-allowed-requires
 length-allowed-requires c κs = search needs

@@ -3,22 +3,22 @@ use mathlib.Core.Path.{sym, _∙_}
 use native.Mathlib.Omega.{arith}
 use borrow.Author.Needs.{needs}
 use lib.ListN.{length-drop}
-use Rattle.bootreader.specs.Reading.{jump}
+use Rattle.configreader.specs.Reading.{jump}
 use Rattle.framing.proofs.Laws.{find-within}
-use Rattle.bootreader.proofs.ReadingLaws.{read-ended, read-jump, read-fault, read-short, search-found, search-none, jump-none, jump-far, jump-on}
+use Rattle.configreader.proofs.ReadingLaws.{read-ended, read-jump, read-fault, read-short, search-found, search-none, jump-none, jump-far, jump-on}
 use Prim.Native.Nat.{ℕ, _+_, _*_, _<_}
 use borrow.Fn.Kinds.{In}
 use borrow.Fn.PlainCycle.{Measures, is, falls, and}
-use Rattle.bootreader.proofs.reader.read.Reads as read
-use Rattle.bootreader.proofs.reader.read.Kinds as read-kinds
-use Rattle.bootreader.proofs.reader.+read+search.Lts-read as read-lts
-use Rattle.bootreader.proofs.reader.search.Reads as search′
-use Rattle.bootreader.proofs.reader.search.Kinds as search-kinds
-use Rattle.bootreader.proofs.reader.+read+search.Lts-search as search-lts
+use Rattle.configreader.proofs.read.Reads as read
+use Rattle.configreader.proofs.read.Kinds as read-kinds
+use Rattle.configreader.proofs.+read+search.Lts-read as read-lts
+use Rattle.configreader.proofs.search.Reads as search′
+use Rattle.configreader.proofs.search.Kinds as search-kinds
+use Rattle.configreader.proofs.+read+search.Lts-search as search-lts
 use Rattle.framing.proofs.search.find_sync.Reads as find-sync-reads
 use Rattle.writes.proofs.reading.finish_from.Reads as finish-from-reads
-use Rattle.bootreader.proofs.reader.+read+search.{statement}
-use Rattle.bootreader.proofs.reader.+read+search.Tie.{close}
+use Rattle.configreader.proofs.+read+search.{statement}
+use Rattle.configreader.proofs.+read+search.Tie.{close}
 
 abbrev μ-read : Measures 1 read-kinds.ps ℕ
 μ-read κs a = 2 * a .1 .1 .0

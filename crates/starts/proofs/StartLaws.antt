@@ -1,22 +1,29 @@
--- What a start that is accepted says.
+-- What a start that is accepted says, and that starts and totals go by the answers to the layout and to the image.
 use Prim.Native.Nat.{ℕ}
-use mathlib.Core.Path.{_≡_, refl, ap, _∙_}
+use mathlib.Core.Path.{_≡_, refl, sym, ap, _∙_}
 use mathlib.Core.List.{List}
 use native.Mathlib.Omega.{arith}
 use lib.ListN.{length}
 use Rattle.base.specs.Question.{ask}
-use Rattle.bootreader.specs.Answers.{aloneCase}
-use Rattle.bootreader.specs.declared.reader.Outcome.{Outcome}
-use Rattle.bootreader.specs.declared.reader.Outcome.the-variants.{Loaded, Iprog, Stuck}
+use Rattle.bootreader.specs.Answers.{aloneCase, imageLength, imageWithin}
+use Rattle.configreader.specs.declared.Outcome.{Outcome}
+use Rattle.configreader.specs.declared.Outcome.the-variants.{Loaded, Iprog, Stuck}
 use Rattle.base.proofs.Laws.{asked}
+use Rattle.bootreader.specs.declared.image.ImageAnswer.{ImageAnswer}
+use Rattle.bootreader.proofs.Laws.{onAnswer, by-answer}
+use Rattle.chip.specs.Kind.{spi, Kind, LoadsAlone, Lawful}
+use Rattle.chip.specs.Answers.{layoutAnswer}
+use Rattle.chip.specs.declared.kind.LayoutAnswer.{LayoutAnswer}
+use Rattle.chip.proofs.Laws.{onLayout, by-layout}
+use Rattle.updater.specs.Run.{total, first}
+use Rattle.starts.specs.Starts.{totalAnswer, askRun, startAnswer}
+use Rattle.starts.specs.declared.StartAnswer.{StartAnswer}
+use Rattle.starts.specs.declared.TotalAnswer.the-variants.{Total, Refused as TotalRefused}
 use Rattle.chip.specs.Layout.{askLayout}
-use Rattle.chip.specs.Kind.{Kind, LoadsAlone, Lawful}
 use Rattle.chip.specs.declared.kind.Layout.{Layout}
-use Rattle.updater.specs.Run.{first}
-use Rattle.updater.specs.Answers.{askRun, startAnswer}
 use Rattle.updater.specs.declared.run.State.{State}
-use Rattle.updater.specs.declared.run.StartAnswer.the-variants.{Started, Refused as StartRefused}
-use Rattle.updater.proofs.RunLaws.{Numbers}
+use Rattle.starts.specs.declared.StartAnswer.the-variants.{Started, Refused as StartRefused}
+use Rattle.updater.proofs.Laws.{Numbers}
 
 -- A start that is accepted: questions 1 to 5, and the first state.
 pub record Opened (kind : Kind) (layout : Layout) (image : List ℕ) (state : State) : Type 0 where
@@ -49,3 +56,19 @@ opened kind lawful layout image state e =
 pub starts : (kind : Kind) (layout : Layout) (image : List ℕ) → Numbers layout (length image) → LoadsAlone kind image → startAnswer kind layout image ≡ Started (first layout (length image))
 unfolding startAnswer askRun askLayout aloneCase ask
 starts kind layout image numbers alone = rw (numbers .long, numbers .starts, numbers .spans, numbers .image, alone .reading) refl
+
+-- A start goes by the answers to the layout and to the image.
+abbrev byImage : Layout → List ℕ → ImageAnswer → StartAnswer
+byImage layout image a = onAnswer StartRefused (λ sync end writes. Started (first layout (length image))) a
+
+pub start-by : (layout : Layout) (image : List ℕ) (l : LayoutAnswer) (a : ImageAnswer) → layoutAnswer layout ≡ l → imageWithin (layout .area) image ≡ a →
+    onLayout StartRefused (byImage layout image a) l ≡ startAnswer spi layout image
+unfolding startAnswer askRun
+start-by layout image l a p q =
+    rw (sym p, sym q) (ap (λ (rest : StartAnswer). onLayout StartRefused rest (layoutAnswer layout)) (by-answer StartRefused (λ sync end writes. Started (first layout (length image))) (layout .area) image) ∙ by-layout StartRefused _ layout)
+
+-- So does a total.
+pub total-by : (layout : Layout) (n : ℕ) (l : LayoutAnswer) → layoutAnswer layout ≡ l →
+    onLayout TotalRefused (ask (imageLength (layout .area) n) (TotalRefused 4 0) (Total (total layout n))) l ≡ totalAnswer layout n
+unfolding totalAnswer
+total-by layout n l p = rw (sym p) (by-layout TotalRefused _ layout)

@@ -1,0 +1,2 @@
+-- What the configuration reader reads, from sync to sync.
+pub mod Reading

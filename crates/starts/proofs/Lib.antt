@@ -1,0 +1,2 @@
+pub mod StartLaws
+pub mod Laws

@@ -1,0 +1,2 @@
+-- What the contracts of this crate say.
+pub mod Starts
