@@ -1,11 +1,9 @@
-// A run: its state, its orders, and the replies that move it on. Run, order, reply and stop are document
-// 01's terms. An order is an operation on the chip that the run asks for (an erase, a program or a
-// look); the host carries it out and replies; a stop is a look that read something else.
+// A run: its state, and the replies that move it on. Run, order, reply and stop are document 01's terms. The run
+// asks for an order (`orders`), the host carries it out and replies; a stop is a look that read something else.
 ghost use mathlib.Core.Path.{_≡_};
 ghost use mathlib.Core.Bool.{true};
 ghost use lib.ListN.{length};
 ghost use Rattle.base.specs.Question.{ask};
-ghost use Rattle.chip.specs.declared.kind.LayoutAnswer.the-variants.{Allowed};
 ghost use Rattle.chip.specs.Kind.{spi};
 ghost use Rattle.updater.specs.Run.{count, outcomeAllowed, stands, fits, running, after};
 ghost use Rattle.updater.specs.Orders.{currentOrder, operationOf, lookedFor};
