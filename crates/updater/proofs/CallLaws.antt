@@ -19,17 +19,18 @@ use Rattle.chip.specs.Answers.{layoutAnswer}
 use Rattle.chip.specs.declared.kind.Layout.{Layout}
 use Rattle.chip.specs.declared.kind.LayoutAnswer.{LayoutAnswer}
 use Rattle.chip.proofs.Laws.{area-allowed, onLayout, by-layout}
-use Rattle.updater.specs.Run.{byPhase, count, after, ended, running, stands, fits}
+use Rattle.updater.specs.Run.{byPhase, count, after, running, stands, fits}
 use Rattle.updater.specs.Orders.{Order, erase, program, look, pageOf, orderOf, currentOrder, operationOf, programmed, lookedFor}
 use Rattle.comparison.specs.Comparison.{differs, comparison}
 use Rattle.updater.specs.Answers.{done, read, asksFor, stopOf, compared, repliedTo}
+use Rattle.updater.specs.Judging.{judgedDone, judgedLook, judged, onJudged}
+use Rattle.updater.specs.declared.run.Judgement.{Judgement}
+use Rattle.updater.specs.declared.run.Judgement.the-variants.{NotAsked, Agrees}
 use Rattle.updater.specs.declared.run.State.{State}
 use Rattle.updater.specs.declared.orders.Operation.{Operation}
 use Rattle.updater.specs.declared.orders.Operation.the-variants.{Erase, Program, Look}
-use Rattle.comparison.specs.declared.Comparison.{Comparison}
-use Rattle.comparison.specs.declared.Comparison.the-variants.{Same, Differs}
 use Rattle.updater.specs.declared.run.ReplyAnswer.{ReplyAnswer}
-use Rattle.updater.specs.declared.run.ReplyAnswer.the-variants.{Next, Stopped, Refused}
+use Rattle.updater.specs.declared.run.ReplyAnswer.the-variants.{Next, Refused}
 use Rattle.updater.proofs.RunLaws.{phases, numbers-image, fits-says, running-says, image-pages}
 use Rattle.updater.proofs.OrderLaws.{current-order}
 
@@ -184,31 +185,35 @@ page-part image i from to e f = go (leb (page * i + page) (length image)) refl (
 pub asked-for : (what count said lent : ℕ) → asksFor what count said lent ≡ true → (said ≡ what) × (lent ≡ count)
 asked-for what count said lent e = let b = both-true (eqb said what) (eqb lent count) e in (eqb-true said what (b .0), eqb-true lent count (b .1))
 
--- A reply to a look goes by the comparison,
-unfoldable pub onComparison : Comparison → State → ReplyAnswer
-onComparison Same state = Next (after state)
-onComparison (Differs address) state = Stopped (stopOf (state .phase)) address (ended state (stopOf (state .phase)))
+-- A reply that was judged is answered as the specification says,
+look-judged : (d : Option ℕ) (state : State) → onJudged (judgedLook (comparison d)) state ≡ compared d state
+unfolding onJudged judgedLook comparison compared
+look-judged none state = refl
+look-judged (some address) state = refl
 
-pub compared-by : (d : Option ℕ) (state : State) (found : Comparison) → comparison d ≡ found → onComparison found state ≡ compared d state
-unfolding onComparison comparison compared
-compared-by d state found e = ap (λ (found : Comparison). onComparison found state) (sym e) ∙ by-comparison d
+ask-judged : (b : Bool) (rest : Judgement) (state : State) (answer : ReplyAnswer) → onJudged rest state ≡ answer → onJudged (ask b NotAsked rest) state ≡ ask b (Refused 9 0 state) answer
+unfolding ask onJudged
+ask-judged true rest state answer e = e
+ask-judged false rest state answer e = refl
+
+pub judged-replies : (order : Order) (state : State) (said : ℕ) (bytes : List ℕ) → onJudged (judged order said bytes) state ≡ repliedTo order state said bytes
+unfolding judged judgedDone repliedTo onJudged
+judged-replies (erase place count) state said bytes = ask-judged (asksFor done 0 said (length bytes)) Agrees state (Next (after state)) refl
+judged-replies (program place contents) state said bytes = ask-judged (asksFor done 0 said (length bytes)) Agrees state (Next (after state)) refl
+judged-replies (look place must) state said bytes =
+    ask-judged (asksFor read (length must) said (length bytes)) _ state (compared (differs place bytes must) state) (look-judged (differs place bytes must) state)
+
+-- and any reply is judged by the operation that was asked for.
+unfoldable pub onOperation : Operation → List ℕ → ℕ → List ℕ → Judgement
+onOperation (Erase place count) must said bytes = judgedDone said (length bytes)
+onOperation (Program place count) must said bytes = judgedDone said (length bytes)
+onOperation (Look place count) must said bytes = ask (asksFor read count said (length bytes)) NotAsked (judgedLook (comparison (differs place bytes must)))
+
+pub judged-by : (order : Order) (said : ℕ) (bytes : List ℕ) (o : Operation) → operationOf order ≡ o → onOperation o (lookedFor order) said bytes ≡ judged order said bytes
+unfolding onOperation operationOf lookedFor judged
+judged-by order said bytes o e = ap (λ (o : Operation). onOperation o (lookedFor order) said bytes) (sym e) ∙ by-operation order
   where
-    by-comparison : (d : Option ℕ) → onComparison (comparison d) state ≡ compared d state
-    by-comparison none = refl
-    by-comparison (some address) = refl
-
--- and any reply by the operation that was asked for.
-unfoldable pub onOperation : Operation → List ℕ → State → ℕ → List ℕ → ReplyAnswer
-onOperation (Erase place count) must state said bytes = ask (asksFor done 0 said (length bytes)) (Refused 9 0 state) (Next (after state))
-onOperation (Program place count) must state said bytes = ask (asksFor done 0 said (length bytes)) (Refused 9 0 state) (Next (after state))
-onOperation (Look place count) must state said bytes =
-    ask (asksFor read count said (length bytes)) (Refused 9 0 state) (compared (differs place bytes must) state)
-
-pub replied-by : (order : Order) (state : State) (said : ℕ) (bytes : List ℕ) (o : Operation) → operationOf order ≡ o → onOperation o (lookedFor order) state said bytes ≡ repliedTo order state said bytes
-unfolding onOperation operationOf lookedFor repliedTo
-replied-by order state said bytes o e = ap (λ (o : Operation). onOperation o (lookedFor order) state said bytes) (sym e) ∙ by-operation order
-  where
-    by-operation : (order : Order) → onOperation (operationOf order) (lookedFor order) state said bytes ≡ repliedTo order state said bytes
+    by-operation : (order : Order) → onOperation (operationOf order) (lookedFor order) said bytes ≡ judged order said bytes
     by-operation (erase place count) = refl
     by-operation (program place contents) = refl
     by-operation (look place must) = refl

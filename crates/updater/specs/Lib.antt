@@ -2,3 +2,5 @@
 pub mod Run
 pub mod Orders
 pub mod Answers
+-- What only the contracts of functions that are no public calls cite. No promise rests on it.
+pub mod Judging

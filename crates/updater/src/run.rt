@@ -3,14 +3,13 @@
 ghost use mathlib.Core.Path.{_≡_};
 ghost use mathlib.Core.Bool.{true};
 ghost use lib.ListN.{length};
-ghost use Rattle.base.specs.Question.{ask};
 ghost use Rattle.chip.specs.Kind.{spi};
-ghost use Rattle.updater.specs.Run.{count, outcomeAllowed, stands, fits, running, after};
+ghost use Rattle.updater.specs.Run.{outcomeAllowed, stands, ended, fits, running};
+ghost use Rattle.updater.specs.Judging.{judgedDone, judgedLook, judged, onJudged};
 ghost use Rattle.updater.specs.Orders.{currentOrder, operationOf, lookedFor};
 ghost use Rattle.comparison.specs.Comparison.{differs, comparison};
-ghost use Rattle.updater.specs.Answers.{finishedCase, finishedAnswer, orderRefused, orderAnswer, done, asksFor, stopOf, compared, repliedTo, replyAnswer};
+ghost use Rattle.updater.specs.Answers.{finishedCase, finishedAnswer, orderRefused, orderAnswer, asksFor, stopOf, replyAnswer};
 ghost use Rattle.updater.specs.declared.orders.Operation.the-variants.{Look};
-ghost use Rattle.updater.specs.declared.run.ReplyAnswer.the-variants.{Next, Refused};
 use crate::orders::Operation;
 use crate::orders::after_order;
 use crate::orders::current_bytes;
@@ -69,6 +68,14 @@ pub enum ReplyAnswer {
         place: usize,
         state: State,
     },
+}
+
+// How a reply is judged: it is not the one asked for; it moves the run on; or a look read another byte at an
+// address. It holds no state, so that little is carried through the questions.
+enum Judgement {
+    NotAsked,
+    Agrees,
+    Differs { address: usize },
 }
 
 fn outcome_allowed(outcome: u32) -> bool
@@ -167,31 +174,6 @@ fn stop_number(phase: u32) -> u32
     }
 }
 
-// Question 9, for the bytes that a look read.
-fn reply_look(state: State, image: &[u8], place: usize, bytes: &[u8]) -> ReplyAnswer
-    requires { ⌜ (fits state (length (now image)) ≡ true) × (running state ≡ true) × (operationOf (currentOrder spi state (now image)) ≡ Look place (length (now bytes))) ⌝ }
-    ensures { λ r. ⌜ r ≡ compared (differs place (now (bytes .entry)) (lookedFor (currentOrder spi state (now (image .entry))))) state ⌝ }
-{
-    let comparison = compare_look(state, image, place, bytes);
-    match comparison {
-        Comparison::Same => ReplyAnswer::Next {
-            state: after_order(state),
-        },
-        Comparison::Differs { address } => {
-            let number = stop_number(state.phase);
-            let mut stopped = state;
-            stopped.phase = 7;
-            stopped.index = 0;
-            stopped.outcome = number;
-            ReplyAnswer::Stopped {
-                number,
-                place: address,
-                state: stopped,
-            }
-        }
-    }
-}
-
 // Question 8: does a reply say what is asked for, with as many bytes?
 fn is_as_asked(what: u32, count: usize, said: u32, lent: usize) -> bool
     ensures { λ r. ⌜ r ≡ asksFor what count said lent ⌝ }
@@ -203,46 +185,81 @@ fn is_as_asked(what: u32, count: usize, said: u32, lent: usize) -> bool
 }
 
 // Question 8, for the reply to an erase or program.
-fn reply_done(state: State, said: u32, lent: usize) -> ReplyAnswer
-    requires { ⌜ (fits state (state .length) ≡ true) × (running state ≡ true) ⌝ }
-    ensures { λ r. ⌜ r ≡ ask (asksFor done 0 said lent) (Refused 9 0 state) (Next (after state)) ⌝ }
+fn judge_done(said: u32, lent: usize) -> Judgement
+    ensures { λ r. ⌜ r ≡ judgedDone said lent ⌝ }
 {
-    if !is_as_asked(State::DONE, 0, said, lent) {
-        return ReplyAnswer::Refused {
-            number: 9,
-            place: 0,
-            state,
-        };
+    if is_as_asked(State::DONE, 0, said, lent) {
+        return Judgement::Agrees;
     }
-    ReplyAnswer::Next {
-        state: after_order(state),
+    Judgement::NotAsked
+}
+
+// Question 9, for what comparing a look came to.
+fn judge_look(comparison: Comparison) -> Judgement
+    ensures { λ r. ⌜ r ≡ judgedLook comparison ⌝ }
+{
+    match comparison {
+        Comparison::Same => Judgement::Agrees,
+        Comparison::Differs { address } => Judgement::Differs { address },
     }
 }
 
 // Questions 8 and 9, for a run that goes on.
-fn reply_running(state: State, image: &[u8], said: u32, bytes: &[u8]) -> ReplyAnswer
+fn judge(state: State, image: &[u8], said: u32, bytes: &[u8]) -> Judgement
     requires { ⌜ (fits state (length (now image)) ≡ true) × (running state ≡ true) ⌝ }
-    ensures { λ r. ⌜ r ≡ repliedTo (currentOrder spi state (now (image .entry))) state said (now (bytes .entry)) ⌝ }
+    ensures { λ r. ⌜ r ≡ judged (currentOrder spi state (now (image .entry))) said (now (bytes .entry)) ⌝ }
 {
     let operation = current_operation(state, image);
     match operation {
         Operation::Erase {
             place: _,
             length: _,
-        } => reply_done(state, said, bytes.len()),
+        } => judge_done(said, bytes.len()),
         Operation::Program {
             place: _,
             length: _,
-        } => reply_done(state, said, bytes.len()),
+        } => judge_done(said, bytes.len()),
         Operation::Look { place, length } => {
             if !is_as_asked(State::READ, length, said, bytes.len()) {
-                return ReplyAnswer::Refused {
-                    number: 9,
-                    place: 0,
-                    state,
-                };
+                return Judgement::NotAsked;
             }
-            reply_look(state, image, place, bytes)
+            judge_look(compare_look(state, image, place, bytes))
+        }
+    }
+}
+
+// The state that a stop hands back.
+fn stopped(state: State, outcome: u32) -> State
+    ensures { λ r. ⌜ r ≡ ended state outcome ⌝ }
+{
+    let mut handed = state;
+    handed.phase = 7;
+    handed.index = 0;
+    handed.outcome = outcome;
+    handed
+}
+
+// The answer to a reply that was judged.
+fn reply_judged(state: State, judgement: Judgement) -> ReplyAnswer
+    requires { ⌜ (fits state (state .length) ≡ true) × (running state ≡ true) ⌝ }
+    ensures { λ r. ⌜ r ≡ onJudged judgement state ⌝ }
+{
+    match judgement {
+        Judgement::NotAsked => ReplyAnswer::Refused {
+            number: 9,
+            place: 0,
+            state,
+        },
+        Judgement::Agrees => ReplyAnswer::Next {
+            state: after_order(state),
+        },
+        Judgement::Differs { address } => {
+            let number = stop_number(state.phase);
+            ReplyAnswer::Stopped {
+                number,
+                place: address,
+                state: stopped(state, number),
+            }
         }
     }
 }
@@ -313,6 +330,6 @@ impl State {
                 state: self,
             };
         }
-        reply_running(self, image, said, bytes)
+        reply_judged(self, judge(self, image, said, bytes))
     }
 }
