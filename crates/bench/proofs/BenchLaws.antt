@@ -19,17 +19,19 @@ use Rattle.chip.specs.Kind.{Kind, Lawful, spi, spiOn}
 use Rattle.chip.specs.declared.kind.Layout.{Layout}
 use Rattle.chip.proofs.Laws.{update-allowed, area-allowed, spi-lawful}
 use Rattle.flash.proofs.Laws.{span-at, span-length, over-length, over-before, over-inside, within-over, erased-length, cleared-length, erased-at}
-use Rattle.updater.specs.Run.{byPhase, count, before, total, position, first, after, running, fits}
-use Rattle.updater.specs.Orders.{Order, erase, program, look, pageOf, orderOf, orders, currentOrder, operationOf, programmed, orderBytes}
+use Rattle.orders.specs.Table.{byPhase, count, before, total}
+use Rattle.orders.specs.Orders.{Order, erase, program, look, pageOf, orderOf, orders, operationOf, programmed, orderBytes}
+use Rattle.updater.specs.Run.{position, first, after, running, fits, currentOrder}
 use Rattle.bench.specs.Effects.{placeOf, obeyedSpan, leaves, obeyed, obeyedAll, spanOf}
 use Rattle.starts.specs.Starts.{askRun, startAnswer}
 use Rattle.bench.specs.Bench.{spanAllows, damageAllowed, cutAllowed, cutIn, chipAfter, stateAfter, stateAt}
 use Rattle.updater.specs.declared.run.State.{State}
 use Rattle.starts.specs.declared.StartAnswer.{StartAnswer}
 use Rattle.starts.specs.declared.StartAnswer.the-variants.{Started, Refused as StartRefused}
-use Rattle.updater.specs.declared.orders.Operation.{Operation}
-use Rattle.updater.specs.declared.orders.Operation.the-variants.{Erase, Program, Look}
-use Rattle.updater.proofs.Laws.{phases, Numbers, numbers-image, fits-says, running-says, area-segments, after-index, after-phase, last-or-not, after-fits, after-position, before-later, position-running, position-ended, first-fits, orders-length, current-order, orders-left, page-length}
+use Rattle.orders.specs.declared.Operation.{Operation}
+use Rattle.orders.specs.declared.Operation.the-variants.{Erase, Program, Look}
+use Rattle.orders.proofs.Laws.{phases, area-segments, before-later, orders-length, page-length}
+use Rattle.updater.proofs.Laws.{Numbers, numbers-image, fits-says, running-says, after-index, after-phase, last-or-not, after-fits, after-position, position-running, position-ended, first-fits, current-order, orders-left}
 use Rattle.bench.proofs.ReachLaws.{in-reach}
 use Rattle.base.proofs.Laws.{below-or-not}
 use Rattle.bench.proofs.MixtureLaws.{allows-enough, allows-elsewhere, allows-swap}

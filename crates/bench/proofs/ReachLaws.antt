@@ -11,9 +11,10 @@ use Rattle.chip.specs.declared.kind.Layout.{Layout}
 use Rattle.flash.proofs.Laws.{erased-length}
 use Rattle.chip.proofs.Laws.{update-allowed}
 use Rattle.comparison.proofs.Laws.{filled-length}
-use Rattle.updater.specs.Run.{byPhase, count}
-use Rattle.updater.specs.Orders.{pageOf, orderOf}
-use Rattle.updater.proofs.Laws.{phases, Numbers, numbers-image, area-segments, image-pages, area-pages}
+use Rattle.orders.specs.Table.{byPhase, count}
+use Rattle.orders.specs.Orders.{pageOf, orderOf}
+use Rattle.orders.proofs.Laws.{phases, area-segments, image-pages, area-pages}
+use Rattle.updater.proofs.Laws.{Numbers, numbers-image}
 use Rattle.bench.specs.Effects.{placeOf, spanOf, InReach, OnePage}
 
 -- how long a page of an image is

@@ -11,8 +11,9 @@ use Rattle.flash.specs.Flash.{span}
 use Rattle.chip.specs.Kind.{Kind}
 use Rattle.chip.specs.Answers.{layoutOf}
 use Rattle.chip.specs.declared.kind.Layout.{Layout}
-use Rattle.updater.specs.Run.{total, first, after}
-use Rattle.updater.specs.Orders.{Order, erase, program, look, orders}
+use Rattle.orders.specs.Table.{total}
+use Rattle.orders.specs.Orders.{Order, erase, program, look, orders}
+use Rattle.updater.specs.Run.{first, after}
 use Rattle.bench.specs.Effects.{placeOf, obeyedSpan, leaves, obeyedAll}
 use Rattle.starts.specs.Starts.{askRun}
 use Rattle.updater.specs.declared.run.State.{State}

@@ -7,7 +7,7 @@ use lib.ListN.{length, getD}
 use Rattle.chip.specs.Layout.{page, segment}
 use Rattle.chip.specs.declared.kind.Layout.{Layout}
 use Rattle.flash.specs.Flash.{span, over, erased, afterProgram}
-use Rattle.updater.specs.Orders.{Order, erase, program, look}
+use Rattle.orders.specs.Orders.{Order, erase, program, look}
 
 -- the first byte of an order's span
 unfoldable pub placeOf : Order → ℕ

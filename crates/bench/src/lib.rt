@@ -8,8 +8,9 @@ ghost use Rattle.base.specs.Question.{ask};
 ghost use Rattle.chip.specs.Layout.{segment};
 ghost use Rattle.flash.specs.Flash.{erased};
 ghost use Rattle.chip.specs.Kind.{spi};
-ghost use Rattle.updater.specs.Run.{total, position, first, running, fits};
-ghost use Rattle.updater.specs.Orders.{orders, currentOrder};
+ghost use Rattle.orders.specs.Table.{total};
+ghost use Rattle.orders.specs.Orders.{orders};
+ghost use Rattle.updater.specs.Run.{position, first, running, fits, currentOrder};
 ghost use Rattle.bench.specs.Effects.{obeyed};
 ghost use Rattle.bench.specs.Bench.{mixture, spanAllows, cutAllowed, cutIn, chipAfter, stateAfter, stateAt, benchAnswer, benchOutput, benchLayout};
 ghost use Rattle.bench.specs.declared.BenchAnswer.the-variants.{Reached, Refused};
@@ -19,10 +20,10 @@ use flash::program;
 use flash::write;
 use starts::StartAnswer;
 use starts::start;
-use updater::orders::Operation;
-use updater::orders::after_order;
-use updater::orders::current_bytes;
-use updater::orders::current_operation;
+use orders::Operation;
+use updater::current::after_order;
+use updater::current::current_bytes;
+use updater::current::current_operation;
 use updater::run::State;
 
 // The run's state before the cut order, or at its end; or a refusal that left the chip as it was.
@@ -71,7 +72,7 @@ fn damage_allowed(chip: &[u8], state: State, image: &[u8], damage: &[u8]) -> boo
         return true;
     }
     let on = Spi::ON;
-    let operation = current_operation(state, image);
+    let operation = current_operation(state);
     match operation {
         Operation::Erase { place, length } => span_allowed(
             place,
@@ -109,7 +110,7 @@ fn obey_order(chip: &mut [u8], state: State, image: &[u8])
     requires { ⌜ (fits state (length (now image)) ≡ true) × (running state ≡ true) × (state .layout .length ≡ length (now chip)) ⌝ }
     ensures { λ r. ⌜ now (chip .exit) ≡ obeyed (currentOrder spi state (now (image .entry))) (now (chip .entry)) ⌝ }
 {
-    let operation = current_operation(state, image);
+    let operation = current_operation(state);
     match operation {
         Operation::Erase { place, length } => {
             erase(chip, place, length);
@@ -150,7 +151,7 @@ fn write_damage(chip: &mut [u8], state: State, image: &[u8], damage: &[u8])
     if state.phase >= 7 {
         return;
     }
-    let operation = current_operation(state, image);
+    let operation = current_operation(state);
     match operation {
         Operation::Erase { place, length } => {
             write(chip, place, &damage[..length]);

@@ -13,8 +13,8 @@ use Rattle.configreader.specs.Reading.{readAt, searchFrom, jump}
 use Rattle.bootreader.specs.Answers.{lengthAllowed, imageLength, aloneCase, imageAnswer}
 use Rattle.chip.specs.Layout.{updateAllowed, areaAllowed, askLayout}
 use Rattle.chip.specs.Answers.{layoutAnswer, switchCase, switchAnswer}
-use Rattle.updater.specs.Run.{byPhase, count, before as runBefore}
-use Rattle.updater.specs.Orders.{inPhase, ordersBefore}
+use Rattle.orders.specs.Table.{byPhase, count, before as runBefore}
+use Rattle.orders.specs.Orders.{inPhase, ordersBefore}
 use Rattle.starts.specs.Starts.{totalAnswer}
 use Rattle.digits.specs.Digit.{digits, total, placeIn, digitOf}
 use Rattle.mcsline.specs.Line.{isEnding, onto, bySpelled, spelledBy, lineSpells, byType, typed, parsed, byParsed}

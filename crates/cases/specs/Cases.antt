@@ -13,7 +13,7 @@ use Rattle.chip.specs.declared.kind.LayoutAnswer.the-variants.{Allowed, Refused
 use Rattle.chip.specs.declared.switch.SwitchAnswer.{SwitchAnswer}
 use Rattle.chip.specs.declared.switch.SwitchAnswer.the-variants.{On, Off, Refused as SwitchRefused}
 use Rattle.chip.specs.Kind.{spi}
-use Rattle.updater.specs.Orders.{Order, orders as runOrders}
+use Rattle.orders.specs.Orders.{Order, orders as runOrders}
 use Rattle.starts.specs.Starts.{totalAnswer}
 use Rattle.starts.specs.declared.TotalAnswer.{TotalAnswer}
 use Rattle.starts.specs.declared.TotalAnswer.the-variants.{Total, Refused as TotalRefused}

@@ -6,7 +6,7 @@ use lib.ListN.{drop}
 use Rattle.base.specs.Question.{ask}
 use Rattle.base.proofs.Laws.{asked}
 use Rattle.chip.specs.Kind.{Kind, Lawful}
-use Rattle.updater.specs.Orders.{orders}
+use Rattle.orders.specs.Orders.{orders}
 use Rattle.starts.specs.Starts.{startAnswer}
 use Rattle.bench.specs.Bench.{cutAllowed, chipAfter, stateAt, benchAnswer, benchOutput}
 use Rattle.life.specs.Life.{fresh, Valid, life}

@@ -5,7 +5,7 @@ use mathlib.Core.Bool.{true}
 use mathlib.Core.List.{List}
 use native.Mathlib.Omega.{arith}
 use lib.ListN.{length, take}
-use Rattle.updater.specs.Orders.{Order, erase, program, look}
+use Rattle.orders.specs.Orders.{Order, erase, program, look}
 use Rattle.bench.specs.Effects.{placeOf, obeyedSpan, spanOf, Bytes}
 use Rattle.bench.specs.Bench.{damageAllowed}
 use Rattle.life.specs.Life.{MayBeLeft}

@@ -19,8 +19,9 @@ use Rattle.chip.specs.Kind.{Kind, switchWord, goldenArea, Covers, LoadsAlone, G
 use Rattle.chip.specs.declared.kind.Layout.{Layout}
 use Rattle.flash.proofs.Laws.{getD-any, span-at, span-length, over-length, over-before, over-after, erased-length, cleared-length}
 use Rattle.chip.proofs.Laws.{update-allowed, area-allowed, golden-stays, erase-good, program-good, area-switch, area-good}
-use Rattle.updater.specs.Run.{byPhase, count, after, ended, running, fits}
-use Rattle.updater.specs.Orders.{Order, erase, program, look, pageOf, orderOf}
+use Rattle.orders.specs.Table.{byPhase, count}
+use Rattle.orders.specs.Orders.{Order, erase, program, look, pageOf, orderOf}
+use Rattle.updater.specs.Run.{after, ended, running, fits}
 use Rattle.comparison.specs.Comparison.{filled, differs}
 use Rattle.bench.specs.Effects.{obeyedSpan, leaves}
 use Rattle.starts.specs.Starts.{startAnswer}
@@ -32,7 +33,8 @@ use Rattle.starts.specs.declared.StartAnswer.{StartAnswer}
 use Rattle.starts.specs.declared.StartAnswer.the-variants.{Started, Refused as StartRefused}
 use Rattle.updater.specs.declared.run.ReplyAnswer.{ReplyAnswer}
 use Rattle.updater.specs.declared.run.ReplyAnswer.the-variants.{Next, Stopped, Refused}
-use Rattle.updater.proofs.Laws.{phases, Numbers, numbers-image, fits-says, running-says, area-segments, image-pages, after-index, after-phase, last-or-not, after-fits, first-fits, current-order, page-at}
+use Rattle.orders.proofs.Laws.{phases, area-segments, image-pages, page-at}
+use Rattle.updater.proofs.Laws.{Numbers, numbers-image, fits-says, running-says, after-index, after-phase, last-or-not, after-fits, first-fits, current-order}
 use Rattle.starts.proofs.Laws.{opened}
 use Rattle.comparison.proofs.Laws.{filled-at, filled-length, none-same}
 use Rattle.life.proofs.ReplyLaws.{moved, halted}

@@ -3,13 +3,15 @@ use Prim.Native.Nat.{ℕ, _-_, _<_}
 use mathlib.Core.Path.{refl, sym, ap, subst, _∙_}
 use lib.ListN.{length}
 use Rattle.chip.specs.Kind.{Kind, Lawful}
-use Rattle.updater.specs.Run.{count, before, position}
-use Rattle.updater.specs.Orders.{Order}
+use Rattle.orders.specs.Table.{count, before}
+use Rattle.orders.specs.Orders.{Order}
+use Rattle.updater.specs.Run.{position}
 use Rattle.bench.specs.Effects.{placeOf, spanOf, InReach, OnePage}
 use Rattle.updater.specs.Answers.{read}
 use Rattle.bench.proofs.Laws.{in-reach}
 use Rattle.life.specs.OrderList.{Demand2}
-use Rattle.updater.proofs.Laws.{Numbers, fits-says, running-says, after-position, position-running, position-ended, orders-length, current-order}
+use Rattle.orders.proofs.Laws.{orders-length}
+use Rattle.updater.proofs.Laws.{Numbers, fits-says, running-says, after-position, position-running, position-ended, current-order}
 use Rattle.life.proofs.ReplyLaws.{moved, halted, halts, moves}
 
 module _ (kind : Kind) (lawful : Lawful kind) where

@@ -13,11 +13,12 @@ use Rattle.chip.specs.Kind.{Kind, switchWord, Lawful}
 use Rattle.chip.specs.declared.kind.Layout.{Layout}
 use Rattle.flash.proofs.Laws.{getD-any, span-at, span-length, erased-length, erased-at}
 use Rattle.chip.proofs.Laws.{update-allowed, area-allowed}
-use Rattle.updater.specs.Run.{byPhase, pages, count}
-use Rattle.updater.specs.Orders.{erase, program, pageOf, orderOf}
+use Rattle.orders.specs.Table.{byPhase, pages, count}
+use Rattle.orders.specs.Orders.{erase, program, pageOf, orderOf}
 use Rattle.comparison.specs.Comparison.{filled}
 use Rattle.bench.specs.Effects.{leaves, obeyed, Bytes}
-use Rattle.updater.proofs.Laws.{phases, Numbers, numbers-image, area-segments, image-pages, area-pages, page-at, page-length}
+use Rattle.orders.proofs.Laws.{phases, area-segments, image-pages, area-pages, page-at, page-length}
+use Rattle.updater.proofs.Laws.{Numbers, numbers-image}
 use Rattle.comparison.proofs.Laws.{filled-at, filled-length}
 use Rattle.bench.proofs.Laws.{Blank}
 use Rattle.life.proofs.ObeyLaws.{Obeys, erase-obeys, erase-before, erase-inside, program-obeys, program-before, program-inside, program-after, look-obeys}

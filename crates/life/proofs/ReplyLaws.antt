@@ -12,8 +12,8 @@ use Rattle.base.specs.Question.{ask}
 use Rattle.base.proofs.Laws.{asked}
 use Rattle.chip.specs.Kind.{Kind}
 use Rattle.comparison.proofs.Laws.{differs-none, none-same}
-use Rattle.updater.specs.Run.{after, ended, running, fits}
-use Rattle.updater.specs.Orders.{Order, erase, program, look, currentOrder}
+use Rattle.orders.specs.Orders.{Order, erase, program, look}
+use Rattle.updater.specs.Run.{after, ended, running, fits, currentOrder}
 use Rattle.comparison.specs.Comparison.{differs}
 use Rattle.updater.specs.Answers.{done, read, asksFor, stopOf, compared, repliedTo, replyAnswer}
 use Rattle.life.specs.OrderList.{Replies, FirstDiffers, Moved, Halted}

@@ -12,8 +12,9 @@ use lib.Dec.{eqb}
 use lib.ListN.{length, drop, take}
 use Rattle.chip.specs.Kind.{Kind, LoadsAlone, Lawful}
 use Rattle.chip.specs.declared.kind.Layout.{Layout}
-use Rattle.updater.specs.Run.{byPhase, count, before, total, position, first, after, ended, running, fits}
-use Rattle.updater.specs.Orders.{Order, erase, program, look, orderOf, orders, currentOrder}
+use Rattle.orders.specs.Table.{byPhase, count, before, total}
+use Rattle.orders.specs.Orders.{Order, erase, program, look, orderOf, orders}
+use Rattle.updater.specs.Run.{position, first, after, ended, running, fits, currentOrder}
 use Rattle.bench.specs.Effects.{placeOf, obeyedSpan, obeyed, obeyedAll, spanOf, Bytes}
 use Rattle.starts.specs.Starts.{startAnswer}
 use Rattle.updater.specs.Answers.{replyAnswer}

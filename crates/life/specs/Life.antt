@@ -11,8 +11,8 @@ use Rattle.flash.specs.Flash.{span}
 use Rattle.chip.specs.Cut.{MayLeave}
 use Rattle.chip.specs.Kind.{Kind, switchWord, goldenArea, LoadsAlone, Loads, Good, Stands}
 use Rattle.chip.specs.declared.kind.Layout.{Layout}
-use Rattle.updater.specs.Run.{running, first, ended}
-use Rattle.updater.specs.Orders.{Order, erase, program, look, orders, currentOrder}
+use Rattle.orders.specs.Orders.{Order, erase, program, look, orders}
+use Rattle.updater.specs.Run.{running, first, ended, currentOrder}
 use Rattle.comparison.specs.Comparison.{differs}
 use Rattle.bench.specs.Effects.{obeyedSpan, leaves, obeyed, Bytes}
 use Rattle.starts.specs.Starts.{startAnswer}

@@ -6,8 +6,9 @@ use mathlib.Core.List.{List, []}
 use lib.ListN.{length, getD}
 use Rattle.chip.specs.Kind.{Kind}
 use Rattle.chip.specs.declared.kind.Layout.{Layout}
-use Rattle.updater.specs.Run.{total, position, first, after, ended, running, fits}
-use Rattle.updater.specs.Orders.{Order, erase, program, look, orders, currentOrder}
+use Rattle.orders.specs.Table.{total}
+use Rattle.orders.specs.Orders.{Order, erase, program, look, orders}
+use Rattle.updater.specs.Run.{position, first, after, ended, running, fits, currentOrder}
 use Rattle.bench.specs.Effects.{placeOf, spanOf, InReach, OnePage}
 use Rattle.updater.specs.Answers.{done, read, stopOf, replyAnswer}
 use Rattle.updater.specs.declared.run.State.{State}

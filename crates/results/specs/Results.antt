@@ -19,8 +19,8 @@ use Rattle.starts.specs.declared.StartAnswer.{StartAnswer}
 use Rattle.starts.specs.declared.StartAnswer.the-variants.{Started, Refused as StartRefused}
 use Rattle.starts.specs.declared.TotalAnswer.{TotalAnswer}
 use Rattle.starts.specs.declared.TotalAnswer.the-variants.{Total, Refused as TotalRefused}
-use Rattle.updater.specs.declared.orders.Operation.{Operation}
-use Rattle.updater.specs.declared.orders.Operation.the-variants.{Erase, Program, Look}
+use Rattle.orders.specs.declared.Operation.{Operation}
+use Rattle.orders.specs.declared.Operation.the-variants.{Erase, Program, Look}
 use Rattle.updater.specs.declared.run.Asked.{Asked}
 use Rattle.updater.specs.declared.run.Asked.the-variants.{Ordered, Refused as OrderRefused}
 use Rattle.updater.specs.declared.run.OrderAnswer.{OrderAnswer}

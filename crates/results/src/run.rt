@@ -6,7 +6,7 @@ ghost use Rattle.results.specs.Results.{stateOf, stateResult, noState, s
 use chip::kind::Spi;
 use starts::StartAnswer;
 use starts::TotalAnswer;
-use updater::orders::Operation;
+use orders::Operation;
 use updater::run::Asked;
 use updater::run::FinishedAnswer;
 use updater::run::ReplyAnswer;

@@ -15,7 +15,8 @@ use Rattle.chip.specs.Kind.{spi, Kind, LoadsAlone, Lawful}
 use Rattle.chip.specs.Answers.{layoutAnswer}
 use Rattle.chip.specs.declared.kind.LayoutAnswer.{LayoutAnswer}
 use Rattle.chip.proofs.Laws.{onLayout, by-layout}
-use Rattle.updater.specs.Run.{total, first}
+use Rattle.orders.specs.Table.{total}
+use Rattle.updater.specs.Run.{first}
 use Rattle.starts.specs.Starts.{totalAnswer, askRun, startAnswer}
 use Rattle.starts.specs.declared.StartAnswer.{StartAnswer}
 use Rattle.starts.specs.declared.TotalAnswer.the-variants.{Total, Refused as TotalRefused}

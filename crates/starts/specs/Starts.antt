@@ -7,7 +7,8 @@ use Rattle.bootreader.specs.Answers.{imageLength, aloneCase}
 use Rattle.chip.specs.Layout.{askLayout}
 use Rattle.chip.specs.Kind.{Kind}
 use Rattle.chip.specs.declared.kind.Layout.{Layout}
-use Rattle.updater.specs.Run.{total, first}
+use Rattle.orders.specs.Table.{total}
+use Rattle.updater.specs.Run.{first}
 use Rattle.starts.specs.declared.StartAnswer.{StartAnswer}
 use Rattle.starts.specs.declared.StartAnswer.the-variants.{Started, Refused as StartRefused}
 use Rattle.starts.specs.declared.TotalAnswer.{TotalAnswer}

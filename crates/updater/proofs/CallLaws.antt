@@ -1,56 +1,38 @@
 -- The calls on a run: what their code computes, as the specification says it.
-use Prim.Native.Nat.{ℕ, zero, suc, _+_, _-_, _*_, _/_, _%_, _<_, min}
+use Prim.Native.Nat.{ℕ, zero, suc, _+_, _*_, _<_}
 use mathlib.Core.Path.{_≡_, refl, sym, ap, _∙_}
 use mathlib.Core.Bool.{Bool, true, false}
 use mathlib.Core.Option.{Option, some, none}
-use mathlib.Core.List.{List, []}
+use mathlib.Core.List.{List}
 use native.Mathlib.Omega.{arith}
-use borrow.Author.Tests.{leb-true, leb-false, eqb-true}
-use lib.Dec.{eqb, leb}
-use lib.ListN.{length, take, drop, length-take, length-drop, drop-of-length-le}
-use lib.Seq.{take-all}
+use borrow.Author.Tests.{eqb-true}
+use lib.Dec.{eqb}
+use lib.ListN.{length}
 use Rattle.base.specs.Question.{ask}
 use Rattle.base.proofs.Laws.{both-true}
 use Rattle.bootreader.specs.Answers.{imageLength}
 use Rattle.bootreader.proofs.Laws.{length-allowed}
 use Rattle.chip.specs.Layout.{page}
-use Rattle.chip.specs.Kind.{spi}
 use Rattle.chip.specs.Answers.{layoutAnswer}
-use Rattle.chip.specs.declared.kind.Layout.{Layout}
 use Rattle.chip.specs.declared.kind.LayoutAnswer.{LayoutAnswer}
 use Rattle.chip.proofs.Laws.{area-allowed, onLayout, by-layout}
-use Rattle.updater.specs.Run.{byPhase, count, after, running, stands, fits}
-use Rattle.updater.specs.Orders.{Order, erase, program, look, pageOf, orderOf, currentOrder, operationOf, programmed, lookedFor}
+use Rattle.orders.specs.Table.{byPhase, count}
+use Rattle.orders.specs.Orders.{Order, erase, program, look, operationOf, lookedFor}
+use Rattle.updater.specs.Run.{after, running, stands, fits}
 use Rattle.comparison.specs.Comparison.{differs, comparison}
 use Rattle.updater.specs.Answers.{done, read, asksFor, stopOf, compared, repliedTo}
 use Rattle.updater.specs.Judging.{judgedDone, judgedLook, judged, onJudged}
 use Rattle.updater.specs.declared.run.Judgement.{Judgement}
 use Rattle.updater.specs.declared.run.Judgement.the-variants.{NotAsked, Agrees}
 use Rattle.updater.specs.declared.run.State.{State}
-use Rattle.updater.specs.declared.orders.Operation.{Operation}
-use Rattle.updater.specs.declared.orders.Operation.the-variants.{Erase, Program, Look}
+use Rattle.orders.specs.declared.Operation.{Operation}
+use Rattle.orders.specs.declared.Operation.the-variants.{Erase, Program, Look}
 use Rattle.updater.specs.declared.run.ReplyAnswer.{ReplyAnswer}
 use Rattle.updater.specs.declared.run.ReplyAnswer.the-variants.{Next, Refused}
-use Rattle.updater.proofs.RunLaws.{phases, numbers-image, fits-says, running-says, image-pages}
-use Rattle.updater.proofs.OrderLaws.{current-order}
+use Rattle.orders.proofs.Laws.{phases}
+use Rattle.updater.proofs.RunLaws.{numbers-image, fits-says, running-says}
 
--- n/256 rounded up, in parts that cannot wrap.
-pub rounded-up : (n : ℕ) → n / 256 + (n % 256 + 255) / 256 ≡ (n + 255) / 256
-rounded-up n = omega arith
-
--- No phase but the seven has an order,
-pub count-none : (layout : Layout) (n phase : ℕ) → (phase ≡ 0 → ⊥) → (phase ≡ 1 → ⊥) → (phase ≡ 2 → ⊥) → (phase ≡ 3 → ⊥) → (phase ≡ 4 → ⊥) → (phase ≡ 5 → ⊥) → (phase ≡ 6 → ⊥) → count layout n phase ≡ 0
-unfolding count byPhase
-count-none layout n zero a b c d e f g = absurd (a refl)
-count-none layout n (suc zero) a b c d e f g = absurd (b refl)
-count-none layout n (suc (suc zero)) a b c d e f g = absurd (c refl)
-count-none layout n (suc (suc (suc zero))) a b c d e f g = absurd (d refl)
-count-none layout n (suc (suc (suc (suc zero)))) a b c d e f g = absurd (e refl)
-count-none layout n (suc (suc (suc (suc (suc zero))))) a b c d e f g = absurd (f refl)
-count-none layout n (suc (suc (suc (suc (suc (suc zero)))))) a b c d e f g = absurd (g refl)
-count-none layout n (suc (suc (suc (suc (suc (suc (suc phase))))))) a b c d e f g = refl
-
--- and no phase but the three that look has a stop.
+-- No phase but the three that look has a stop.
 pub stop-none : (phase : ℕ) → (phase ≡ 1 → ⊥) → (phase ≡ 4 → ⊥) → (phase ≡ 6 → ⊥) → stopOf phase ≡ 0
 unfolding stopOf byPhase
 stop-none zero b e g = refl
@@ -92,94 +74,6 @@ places-small state lent e r =
 -- The image lent is as long as the run's.
 pub fits-own : (state : State) (lent : ℕ) → fits state lent ≡ true → fits state (state .length) ≡ true
 fits-own state lent e = ap (fits state) (fits-says state lent e .same) ∙ e
-
--- The current order of a state in a given phase.
-pub at-phase : (state : State) (image : List ℕ) (phase : ℕ) → fits state (length image) ≡ true → running state ≡ true → state .phase ≡ phase →
-    currentOrder spi state image ≡ orderOf spi (state .layout) image phase (state .index)
-at-phase state image phase e r p = current-order spi state image e r ∙ ap (λ (k : ℕ). orderOf spi (state .layout) image k (state .index)) p
-
--- Phase 3 has a page of the image left,
-pub page-left : (state : State) (image : List ℕ) → fits state (length image) ≡ true → running state ≡ true → state .phase ≡ 3 → page * state .index < length image
-page-left state image e r p =
-    let f = fits-says state (length image) e in
-    let s = running-says state (length image) e r in
-    let i : state .index < count (state .layout) (state .length) 3 = rw p at (s .1) in
-    let h = image-pages (state .layout) (state .length) (state .index) i in
-    omega (arith, f .same)
-
--- and phase 6 is the one that remains.
-pub last-phase : (phase : ℕ) → phase < 7 → (phase ≡ 0 → ⊥) → (phase ≡ 1 → ⊥) → (phase ≡ 2 → ⊥) → (phase ≡ 3 → ⊥) → (phase ≡ 4 → ⊥) → (phase ≡ 5 → ⊥) → phase ≡ 6
-last-phase phase h a b c d e f = omega arith
-
--- Only phases 3 and 5 program;
-pub programs-none : (state : State) (image : List ℕ) → fits state (length image) ≡ true → running state ≡ true → (state .phase ≡ 3 → ⊥) → (state .phase ≡ 5 → ⊥) → programmed (currentOrder spi state image) ≡ []
-unfolding orderOf byPhase programmed
-programs-none state image e r a b =
-    ap programmed (current-order spi state image e r)
-    ∙ phases (λ (phase : ℕ). (phase ≡ 3 → ⊥) → (phase ≡ 5 → ⊥) → programmed (orderOf spi (state .layout) image phase (state .index)) ≡ [])
-    (λ a b. refl)
-    (λ a b. refl)
-    (λ a b. refl)
-    (λ a b. absurd (a refl))
-    (λ a b. refl)
-    (λ a b. absurd (b refl))
-    (λ a b. refl)
-    (state .phase) (running-says state (length image) e r .0) a b
-
--- of those that look, phase 6 is the one after 1 and 4.
-pub looks-last : (state : State) (image : List ℕ) (place n : ℕ) → fits state (length image) ≡ true → running state ≡ true → operationOf (currentOrder spi state image) ≡ Look place n →
-    (state .phase ≡ 1 → ⊥) → (state .phase ≡ 4 → ⊥) → state .phase ≡ 6
-unfolding orderOf byPhase operationOf
-looks-last state image place n e r q =
-    phases (λ (phase : ℕ). operationOf (orderOf spi (state .layout) image phase (state .index)) ≡ Look place n → (phase ≡ 1 → ⊥) → (phase ≡ 4 → ⊥) → phase ≡ 6)
-    (λ q a b. absurd (erase-look _ _ q))
-    (λ q a b. absurd (a refl))
-    (λ q a b. absurd (erase-look _ _ q))
-    (λ q a b. absurd (program-look _ _ q))
-    (λ q a b. absurd (b refl))
-    (λ q a b. absurd (program-look _ _ q))
-    (λ q a b. refl)
-    (state .phase) (running-says state (length image) e r .0) (sym (ap operationOf (current-order spi state image e r)) ∙ q)
-  where
-    erase-look : (from count : ℕ) → Erase from count ≡ Look place n → ⊥
-    erase-look from count q = let z : _≡_ {A = ℕ} 0 1 = cc in omega arith
-
-    program-look : (from count : ℕ) → Program from count ≡ Look place n → ⊥
-    program-look from count q = let z : _≡_ {A = ℕ} 0 1 = cc in omega arith
-
--- A look is at one place, of so many bytes.
-pub look-parts : (a b place n : ℕ) → Look a b ≡ Look place n → (a ≡ place) × (b ≡ n)
-look-parts a b place n e = (cc, cc)
-
--- A page of an image: how long it is, and its place in the image.
-pub page-length : (image : List ℕ) (i : ℕ) → length (pageOf image i) ≡ min page (length image - page * i)
-page-length image i = length-take page (drop (page * i) image) ∙ ap (min page) (length-drop (page * i) image)
-
-pub page-part : (image : List ℕ) (i from to : ℕ) → from ≡ min (page * i) (length image) → to ≡ min (from + page) (length image) → take (to - from) (drop from image) ≡ pageOf image i
-page-part image i from to e f = go (leb (page * i + page) (length image)) refl (leb (page * i) (length image)) refl
-  where
-    -- to the end, where that is no further than a page
-    rest : from ≡ page * i → length image < page * i + page → take (to - from) (drop from image) ≡ pageOf image i
-    rest s h =
-        let a = length-drop from image in
-        let b = length-drop (page * i) image in
-        take-all (to - from) (drop from image) (omega (arith, e, f))
-        ∙ ap (λ (n : ℕ). drop n image) s
-        ∙ sym (take-all page (drop (page * i) image) (omega arith))
-
-    go : (a : Bool) → leb (page * i + page) (length image) ≡ a → (b : Bool) → leb (page * i) (length image) ≡ b → take (to - from) (drop from image) ≡ pageOf image i
-    go true p b q =
-        let l = leb-true (page * i + page) (length image) p in
-        let s : from ≡ page * i = omega (arith, e) in
-        let t : to - from ≡ page = omega (arith, e, f) in
-        rw (t, s) refl
-    go false p true q = let l = leb-true (page * i) (length image) q in rest (omega (arith, e)) (leb-false (page * i + page) (length image) p)
-    go false p false q =
-        let l = leb-false (page * i) (length image) q in
-        let s : from ≡ length image = omega (arith, e) in
-        let t : to - from ≡ 0 = omega (arith, e, f) in
-        let z : drop (page * i) image ≡ [] = drop-of-length-le image {i = page * i} (omega arith) in
-        rw (t, z) refl
 
 -- Question 8 with a yes.
 pub asked-for : (what count said lent : ℕ) → asksFor what count said lent ≡ true → (said ≡ what) × (lent ≡ count)

@@ -1,4 +1,4 @@
--- A run's state: what one that fits says, how many orders the phases have, and the next state.
+-- A run's state: what one that fits says, and the next state.
 use Prim.Native.Nat.{ℕ, zero, suc, _+_, _-_, _*_, _/_, _<_, _≤_}
 use mathlib.Core.Path.{_≡_, refl, sym, ap, _∙_}
 use mathlib.Core.Logic.{_⊎_, inl, inr, ⊎-elim}
@@ -12,19 +12,10 @@ use Rattle.base.proofs.Laws.{asked, false-true}
 use Rattle.chip.specs.Layout.{page, segment, updateAllowed, areaAllowed, askLayout}
 use Rattle.chip.specs.declared.kind.Layout.{Layout}
 use Rattle.chip.proofs.Laws.{area-allowed}
-use Rattle.updater.specs.Run.{byPhase, pages, count, before, total, position, first, after, running, outcomeAllowed, stands, fits}
+use Rattle.orders.specs.Table.{byPhase, pages, count, before, total}
+use Rattle.orders.proofs.Laws.{phases, before-next, before-later}
+use Rattle.updater.specs.Run.{position, first, after, running, outcomeAllowed, stands, fits}
 use Rattle.updater.specs.declared.run.State.{State}
-
--- A fact of phases 0 to 6, one by one.
-pub phases {ℓ} : (P : ℕ → Type ℓ) → P 0 → P 1 → P 2 → P 3 → P 4 → P 5 → P 6 → (phase : ℕ) → phase < 7 → P phase
-phases P a b c d e f g zero h = a
-phases P a b c d e f g (suc zero) h = b
-phases P a b c d e f g (suc (suc zero)) h = c
-phases P a b c d e f g (suc (suc (suc zero))) h = d
-phases P a b c d e f g (suc (suc (suc (suc zero)))) h = e
-phases P a b c d e f g (suc (suc (suc (suc (suc zero))))) h = f
-phases P a b c d e f g (suc (suc (suc (suc (suc (suc zero)))))) h = g
-phases P a b c d e f g (suc (suc (suc (suc (suc (suc (suc phase))))))) h = absurd (omega arith)
 
 -- The numbers of a run: questions 1 to 4.
 pub record Numbers (layout : Layout) (n : ℕ) : Type 0 where
@@ -91,19 +82,6 @@ count-some layout n numbers =
     let m : 1 ≤ pages n = omega arith in
     phases (λ (phase : ℕ). 1 ≤ count layout n phase) (omega arith) (omega arith) s m p (omega arith) (omega arith)
 
--- The orders' places: pages and segments of the update area, pages of the image.
-pub area-segments : (layout : Layout) (n i : ℕ) → i < count layout n 2 → segment * i + segment ≤ layout .area
-unfolding count byPhase
-area-segments layout n i h = let b : i < layout .area / segment = h in omega arith
-
-pub image-pages : (layout : Layout) (n i : ℕ) → i < count layout n 3 → page * i < n
-unfolding count byPhase
-image-pages layout n i h = let b : i < pages n = h in omega arith
-
-pub area-pages : (layout : Layout) (n i : ℕ) → i < count layout n 4 → page * i + page ≤ layout .area
-unfolding count byPhase
-area-pages layout n i h = let b : i < layout .area / page = h in omega arith
-
 -- The next state: the next index, or the next phase.
 pub after-index : (state : State) → state .index + 1 < count (state .layout) (state .length) (state .phase) →
     after state ≡ record { layout = state .layout; length = state .length; phase = state .phase; index = state .index + 1; outcome = state .outcome }
@@ -158,11 +136,6 @@ after-fits state lent e r = ⊎-elim next-index next-phase (last-or-not state)
         says-fits s lent (record { numbers = f .numbers; stand = begins-phase (state .layout) (state .length) (f .numbers) (state .phase) (running-says state lent e r .0); same = f .same }) in
         ap (λ (t : State). fits t lent) (after-phase state h ∙ ap (λ (o : ℕ). record { layout = state .layout; length = state .length; phase = state .phase + 1; index = 0; outcome = o }) zero-outcome) ∙ same
 
--- How many orders come before a phase that is not the first.
-before-next : (layout : Layout) (n phase : ℕ) → before layout n (phase + 1) ≡ before layout n phase + count layout n phase
-unfolding before
-before-next layout n phase = let e : phase + 1 ≡ suc phase = omega arith in ap (before layout n) e
-
 pub after-position : (state : State) (lent : ℕ) → fits state lent ≡ true → running state ≡ true → position (after state) ≡ position state + 1
 after-position state lent e r = ⊎-elim next-index next-phase (last-or-not state)
   where
@@ -175,24 +148,6 @@ after-position state lent e r = ⊎-elim next-index next-phase (last-or-not stat
         let c : count (state .layout) (state .length) (state .phase) ≡ state .index + 1 = omega arith in
         let b = before-next (state .layout) (state .length) (state .phase) in
         ap position (after-phase state h) ∙ omega arith
-
--- In all A/4,096 + A/256 + n/256 rounded up + 19.
-pub total-is : (layout : Layout) (n : ℕ) → total layout n ≡ layout .area / 4096 + layout .area / 256 + (n + 255) / 256 + 19
-unfolding before count byPhase
-total-is layout n = omega arith
-
--- Orders of a phase come before those of a later one.
-pub before-later : (layout : Layout) (n phase k : ℕ) → before layout n phase + count layout n phase ≤ before layout n (suc phase + k)
-unfolding before
-before-later layout n phase zero =
-    let e : suc phase + 0 ≡ suc phase = omega arith in
-    let b : before layout n (suc phase + 0) ≡ before layout n phase + count layout n phase = ap (before layout n) e in
-    omega arith
-before-later layout n phase (suc k) =
-    let e : suc phase + suc k ≡ suc (suc phase + k) = omega arith in
-    let b : before layout n (suc phase + suc k) ≡ before layout n (suc phase + k) + count layout n (suc phase + k) = ap (before layout n) e in
-    let h = before-later layout n phase k in
-    omega arith
 
 -- The position tells whether the run goes on.
 pub position-running : (state : State) (lent : ℕ) → fits state lent ≡ true → running state ≡ true → position state < total (state .layout) (state .length)

@@ -9,8 +9,9 @@ use Rattle.base.specs.Question.{ask}
 use Rattle.chip.specs.Layout.{page}
 use Rattle.flash.specs.Flash.{erased}
 use Rattle.chip.specs.Kind.{Kind}
-use Rattle.updater.specs.Run.{byPhase, after, ended, running, fits}
-use Rattle.updater.specs.Orders.{Order, erase, program, look, currentOrder, operationOf, orderBytes}
+use Rattle.orders.specs.Table.{byPhase}
+use Rattle.orders.specs.Orders.{Order, erase, program, look, operationOf, orderBytes}
+use Rattle.updater.specs.Run.{after, ended, running, fits, currentOrder}
 use Rattle.comparison.specs.Comparison.{differs}
 use Rattle.updater.specs.declared.run.State.{State}
 use Rattle.updater.specs.declared.run.FinishedAnswer.{FinishedAnswer}

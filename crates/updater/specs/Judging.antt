@@ -6,8 +6,8 @@ use Rattle.base.specs.Question.{ask}
 use Rattle.comparison.specs.Comparison.{differs, comparison}
 use Rattle.comparison.specs.declared.Comparison.{Comparison}
 use Rattle.comparison.specs.declared.Comparison.the-variants.{Same, Differs as Other}
+use Rattle.orders.specs.Orders.{Order, erase, program, look}
 use Rattle.updater.specs.Run.{after, ended}
-use Rattle.updater.specs.Orders.{Order, erase, program, look}
 use Rattle.updater.specs.Answers.{done, read, asksFor, stopOf}
 use Rattle.updater.specs.declared.run.State.{State}
 use Rattle.updater.specs.declared.run.Judgement.{Judgement}

@@ -1,40 +1,17 @@
--- A run's state. Document 01, "Orders of one run" and question 6.
-use Prim.Native.Nat.{ℕ, zero, suc, _+_, _/_}
+-- A run's state, and its current order. Document 01, "Orders of one run" and question 6.
+use Prim.Native.Nat.{ℕ, _+_}
 use mathlib.Core.Bool.{Bool, true, false}
+use mathlib.Core.List.{List}
 use lib.Dec.{eqb, leb, ltb}
+use lib.ListN.{getD}
 use Rattle.base.specs.Question.{ask}
 use Rattle.bootreader.specs.Answers.{imageLength}
-use Rattle.chip.specs.Layout.{page, segment, askLayout}
+use Rattle.chip.specs.Kind.{Kind}
+use Rattle.chip.specs.Layout.{askLayout}
 use Rattle.chip.specs.declared.kind.Layout.{Layout}
+use Rattle.orders.specs.Table.{count, before}
+use Rattle.orders.specs.Orders.{Order, erase, orders}
 use Rattle.updater.specs.declared.run.State.{State}
-
--- One of eight by the phase: what the table of orders says of phases 0 to 6, and of a run that has ended.
-unfoldable pub byPhase {ℓ} : {A : Type ℓ} → ℕ → A → A → A → A → A → A → A → A → A
-byPhase zero a b c d e f g h = a
-byPhase (suc zero) a b c d e f g h = b
-byPhase (suc (suc zero)) a b c d e f g h = c
-byPhase (suc (suc (suc zero))) a b c d e f g h = d
-byPhase (suc (suc (suc (suc zero)))) a b c d e f g h = e
-byPhase (suc (suc (suc (suc (suc zero))))) a b c d e f g h = f
-byPhase (suc (suc (suc (suc (suc (suc zero)))))) a b c d e f g h = g
-byPhase (suc (suc (suc (suc (suc (suc (suc phase))))))) a b c d e f g h = h
-
--- n/256 rounded up
-abbrev pub pages : ℕ → ℕ
-pages n = (n + 255) / page
-
--- How many orders a phase has, for an image of n bytes: 1 erase; 16 looks; A/4,096 erases; n/256 rounded up, programs; A/256 looks; 1 program; 1 look; none.
-unfoldable pub count : Layout → ℕ → ℕ → ℕ
-count layout n phase = byPhase phase 1 (segment / page) (layout .area / segment) (pages n) (layout .area / page) 1 1 0
-
--- How many orders come before a phase.
-unfoldable pub before : Layout → ℕ → ℕ → ℕ
-before layout n zero = 0
-before layout n (suc phase) = before layout n phase + count layout n phase
-
--- How many there are in all.
-abbrev pub total : Layout → ℕ → ℕ
-total layout n = before layout n 7
 
 -- How many orders come before a state's.
 abbrev pub position : State → ℕ
@@ -78,3 +55,7 @@ fits state lent =
     askLayout (λ number place. false) (state .layout)
     (ask (imageLength (state .layout .area) (state .length)) false
     (ask (stands state) false (eqb (state .length) lent)))
+
+-- The current order is the one at the state's position. (A state that fits, before phase 7, has one; no other gets as far.)
+abbrev pub currentOrder : Kind → State → List ℕ → Order
+currentOrder kind state image = getD (orders kind (state .layout) image) (position state) (erase 0 0)

@@ -1,4 +1,4 @@
-// One run of the QuickBoot algorithm on a printer's chip: its calls (`run`), and its orders (`orders`).
+// One run of the QuickBoot algorithm on a printer's chip: its calls (`run`), and its current order (`current`).
 
-pub mod orders;
+pub mod current;
 pub mod run;

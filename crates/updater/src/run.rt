@@ -4,24 +4,24 @@ ghost use mathlib.Core.Path.{_≡_};
 ghost use mathlib.Core.Bool.{true};
 ghost use lib.ListN.{length};
 ghost use Rattle.chip.specs.Kind.{spi};
-ghost use Rattle.updater.specs.Run.{outcomeAllowed, stands, ended, fits, running};
+ghost use Rattle.orders.specs.Orders.{operationOf, lookedFor};
+ghost use Rattle.updater.specs.Run.{outcomeAllowed, stands, ended, fits, running, currentOrder};
 ghost use Rattle.updater.specs.Judging.{judgedDone, judgedLook, judged, onJudged};
-ghost use Rattle.updater.specs.Orders.{currentOrder, operationOf, lookedFor};
 ghost use Rattle.comparison.specs.Comparison.{differs, comparison};
 ghost use Rattle.updater.specs.Answers.{finishedCase, finishedAnswer, orderRefused, orderAnswer, asksFor, stopOf, replyAnswer};
-ghost use Rattle.updater.specs.declared.orders.Operation.the-variants.{Look};
-use crate::orders::Operation;
-use crate::orders::after_order;
-use crate::orders::current_bytes;
-use crate::orders::current_operation;
-use crate::orders::orders_in;
-use base::smaller;
+ghost use Rattle.orders.specs.declared.Operation.the-variants.{Look};
+use crate::current::after_order;
+use crate::current::current_bytes;
+use crate::current::current_operation;
 use bootreader::image::length_allowed;
 use chip::kind::Layout;
 use chip::kind::LayoutAnswer;
 use chip::kind::Spi;
 use comparison::Comparison;
 use comparison::compare;
+use orders::Operation;
+use orders::carried_bytes;
+use orders::orders_in;
 
 // Where a run is: its layout, the length of its image, phase, index of the order in the phase (0 in
 // phase 7), and outcome (0; 10 to 12 in phase 7 after a stop).
@@ -149,17 +149,8 @@ fn compare_look(state: State, image: &[u8], place: usize, bytes: &[u8]) -> Compa
     requires { ⌜ (fits state (length (now image)) ≡ true) × (running state ≡ true) × (operationOf (currentOrder spi state (now image)) ≡ Look place (length (now bytes))) ⌝ }
     ensures { λ r. ⌜ r ≡ comparison (differs place (now (bytes .entry)) (lookedFor (currentOrder spi state (now (image .entry))))) ⌝ }
 {
-    let phase = state.phase;
     let on = Spi::ON;
-    match phase {
-        1 => compare(place, bytes, &image[0..0]),
-        4 => {
-            let from = smaller(Spi::PAGE * state.index, image.len());
-            let to = smaller(from + Spi::PAGE, image.len());
-            compare(place, bytes, &image[from..to])
-        }
-        _ => compare(place, bytes, &on),
-    }
+    compare(place, bytes, carried_bytes(image, state.phase, state.index, &on))
 }
 
 // The number of a stop in a phase.
@@ -209,7 +200,7 @@ fn judge(state: State, image: &[u8], said: u32, bytes: &[u8]) -> Judgement
     requires { ⌜ (fits state (length (now image)) ≡ true) × (running state ≡ true) ⌝ }
     ensures { λ r. ⌜ r ≡ judged (currentOrder spi state (now (image .entry))) said (now (bytes .entry)) ⌝ }
 {
-    let operation = current_operation(state, image);
+    let operation = current_operation(state);
     match operation {
         Operation::Erase {
             place: _,
@@ -305,7 +296,7 @@ impl State {
         }
         OrderAnswer {
             asked: Asked::Ordered {
-                operation: current_operation(self, image),
+                operation: current_operation(self),
             },
             bytes: current_bytes(self, image),
         }

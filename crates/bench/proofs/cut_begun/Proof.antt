@@ -8,8 +8,8 @@ use lib.ListN.{length, drop}
 use Rattle.base.specs.Question.{ask}
 use Rattle.chip.specs.Kind.{spi}
 use Rattle.chip.specs.declared.kind.Layout.{Layout}
+use Rattle.orders.specs.Orders.{Order, orders}
 use Rattle.updater.specs.Run.{first}
-use Rattle.updater.specs.Orders.{Order, orders}
 use Rattle.bench.specs.Bench.{cutAllowed, cutIn, chipAfter, benchOutput}
 use Rattle.bench.specs.declared.BenchAnswer.the-variants.{Reached}
 use Rattle.updater.proofs.Laws.{fits-says, fits-own}

@@ -10,8 +10,8 @@ use Rattle.chip.specs.Kind.{spi}
 use Rattle.chip.specs.Answers.{layoutOf}
 use Rattle.chip.specs.declared.kind.Layout.{Layout}
 use Rattle.chip.proofs.Laws.{spi-lawful}
+use Rattle.orders.specs.Orders.{orders}
 use Rattle.updater.specs.Run.{first, fits}
-use Rattle.updater.specs.Orders.{orders}
 use Rattle.starts.specs.Starts.{startAnswer}
 use Rattle.bench.specs.Bench.{cutAllowed, chipAfter, stateAt, benchAnswer, benchOutput}
 use Rattle.updater.specs.declared.run.State.{State}

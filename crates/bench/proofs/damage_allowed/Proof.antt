@@ -9,13 +9,13 @@ use borrow.Author.Tests.{lt-ltb, le-ltb}
 use lib.ListN.{length, drop}
 use Rattle.flash.specs.Flash.{erased, span}
 use Rattle.chip.specs.Kind.{spi}
-use Rattle.updater.specs.Run.{position, running, fits}
-use Rattle.updater.specs.Orders.{Order, orders, currentOrder, operationOf}
+use Rattle.orders.specs.Orders.{Order, orders, operationOf}
+use Rattle.updater.specs.Run.{position, running, fits, currentOrder}
 use Rattle.bench.specs.Bench.{spanAllows, cutAllowed, chipAfter}
 use Rattle.updater.specs.declared.run.State.{State}
-use Rattle.updater.specs.declared.orders.Operation.{Operation}
-use Rattle.updater.specs.declared.orders.Operation.the-variants.{Erase}
-use Rattle.updater.proofs.Laws.{orders-ended}
+use Rattle.orders.specs.declared.Operation.{Operation}
+use Rattle.orders.specs.declared.Operation.the-variants.{Erase}
+use Rattle.updater.proofs.Laws.{orders-ended, fits-says, fits-own}
 use Rattle.bench.proofs.BenchLaws.{asksOf, LowIsOn, erase-span, current-within, current-low, current-asked}
 use Rattle.bench.proofs.damage_allowed.Statement.{statement}
 use Rattle.bench.proofs.damage_allowed.Tie as tie
@@ -27,7 +27,12 @@ returns c =
     sym (ap (λ (l : List Order). cutAllowed l (chipAfter spi (a .state .layout) (a .image .now) (position (a .state)) (a .chip .now)) (a .damage .now)) (orders-ended spi (a .state) (a .image .now) (c .before .before .before .before .before .pre .0) (le-ltb (a .state .phase) 7 (c .if1 .taken))))
 
 current-operation-requires : tie.Need-current-operation-requires
-current-operation-requires c κs = (c .before .before .before .before .before .pre .0, lt-ltb (c .before .before .before .before .before .args .state .phase) 7 (omega arith))
+current-operation-requires c κs =
+    (fits-own (c .before .before .before .before .before .args .state) (length (c .before .before .before .before .before .args .image .now)) (c .before .before .before .before .before .pre .0), lt-ltb (c .before .before .before .before .before .args .state .phase) 7 (omega arith))
+
+-- The operation is the current order's.
+the-order : (c : tie.After-current-operation) → c .current-operation .result ≡ operationOf (currentOrder spi (c .before .before .before .before .before .before .args .state) (c .before .before .before .before .before .before .args .image .now))
+the-order c = let a = c .before .before .before .before .before .before .args in c .current-operation .ensures (a .image .now) (fits-says (a .state) (length (a .image .now)) (c .before .before .before .before .before .before .pre .0) .same)
 
 enum-known-operation : tie.Need-enum-known-operation
 enum-known-operation c = search needs
@@ -43,7 +48,7 @@ add-span-allowed : tie.Need-add-span-allowed
 add-span-allowed c =
     let a = c .before .before .before .before .before .before .before .before .before .args in
     let p = c .before .before .before .before .before .before .before .before .before .pre in
-    let w = erase-within (a .state) (a .image .now) _ _ (p .0) (lt-ltb (a .state .phase) 7 (omega arith)) (sym (c .before .before .before .current-operation .ensures) ∙ c .before .operation .given .1) in
+    let w = erase-within (a .state) (a .image .now) _ _ (p .0) (lt-ltb (a .state .phase) 7 (omega arith)) (sym (the-order (c .before .before .before)) ∙ c .before .operation .given .1) in
     omega arith
 
 sub-span-allowed : tie.Need-sub-span-allowed
@@ -56,7 +61,7 @@ part-span-allowed-end : tie.Need-part-span-allowed-end
 part-span-allowed-end c =
     let a = c .before .before .before .before .before .before .before .before .before .args in
     let p = c .before .before .before .before .before .before .before .before .before .pre in
-    let w = erase-within (a .state) (a .image .now) _ _ (p .0) (lt-ltb (a .state .phase) 7 (omega arith)) (sym (c .before .before .before .current-operation .ensures) ∙ c .before .operation .given .1) in
+    let w = erase-within (a .state) (a .image .now) _ _ (p .0) (lt-ltb (a .state .phase) 7 (omega arith)) (sym (the-order (c .before .before .before)) ∙ c .before .operation .given .1) in
     omega arith
 
 span-allowed-requires : tie.Need-span-allowed-requires
@@ -73,7 +78,7 @@ unfolding LowIsOn
 span-allowed-requires-2 c κs =
     let a = c .before .before .before .before .before .before .before .before .before .before .args in
     let p = c .before .before .before .before .before .before .before .before .before .before .pre in
-    current-low (a .state) (a .image .now) (p .0) (lt-ltb (a .state .phase) 7 (omega arith)) _ (sym (c .before .before .before .before .current-operation .ensures) ∙ c .before .before .operation2 .given .1)
+    current-low (a .state) (a .image .now) (p .0) (lt-ltb (a .state .phase) 7 (omega arith)) _ (sym (the-order (c .before .before .before .before)) ∙ c .before .before .operation2 .given .1)
 
 enum-told : tie.Need-enum-told
 enum-told c = search needs
@@ -93,7 +98,7 @@ returns-2 c =
     let n : place + count - place ≡ count = omega arith in
     c .span-allowed .ensures
     ∙ ap (λ (k : ℕ). spanAllows place (span (a .chip .now) place k) (erased count) (a .damage .now)) n
-    ∙ asked-by (a .state) (a .image .now) (a .chip .now) (a .damage .now) _ (p .0) (lt-ltb (a .state .phase) 7 (omega arith)) (p .1) (sym (c .before .before .before .before .before .current-operation .ensures) ∙ c .before .before .before .operation .given .1)
+    ∙ asked-by (a .state) (a .image .now) (a .chip .now) (a .damage .now) _ (p .0) (lt-ltb (a .state .phase) 7 (omega arith)) (p .1) (sym (the-order (c .before .before .before .before .before)) ∙ c .before .before .before .operation .given .1)
 
 returns-3 : tie.Need-returns-3
 unfolding asksOf
@@ -101,14 +106,14 @@ returns-3 c =
     let a = c .before .before .before .before .before .before .before .before .before .before .before .args in
     let p = c .before .before .before .before .before .before .before .before .before .before .before .pre in
     c .span-allowed2 .ensures
-    ∙ asked-by (a .state) (a .image .now) (a .chip .now) (a .damage .now) _ (p .0) (lt-ltb (a .state .phase) 7 (omega arith)) (p .1) (sym (c .before .before .before .before .before .current-operation .ensures) ∙ c .before .before .before .operation2 .given .1)
+    ∙ asked-by (a .state) (a .image .now) (a .chip .now) (a .damage .now) _ (p .0) (lt-ltb (a .state .phase) 7 (omega arith)) (p .1) (sym (the-order (c .before .before .before .before .before)) ∙ c .before .before .before .operation2 .given .1)
 
 returns-4 : tie.Need-returns-4
 unfolding asksOf
 returns-4 c =
     let a = c .before .before .before .before .before .before .before .before .args in
     let p = c .before .before .before .before .before .before .before .before .pre in
-    asked-by (a .state) (a .image .now) (a .chip .now) (a .damage .now) _ (p .0) (lt-ltb (a .state .phase) 7 (omega arith)) (p .1) (sym (c .before .before .current-operation .ensures) ∙ c .enum-told .given .1)
+    asked-by (a .state) (a .image .now) (a .chip .now) (a .damage .now) _ (p .0) (lt-ltb (a .state .phase) 7 (omega arith)) (p .1) (sym (the-order (c .before .before)) ∙ c .enum-told .given .1)
 
 pub damage-allowed-spec : {M : Type 1} → statement M
 damage-allowed-spec =

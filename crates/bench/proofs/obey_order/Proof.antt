@@ -9,18 +9,25 @@ use lib.Seq.{length-take-le}
 use Rattle.chip.specs.Layout.{page}
 use Rattle.flash.specs.Flash.{within, afterProgram}
 use Rattle.chip.specs.Kind.{spi}
-use Rattle.updater.specs.Run.{running, fits}
-use Rattle.updater.specs.Orders.{currentOrder, operationOf, programmed, orderBytes}
+use Rattle.orders.specs.Orders.{operationOf, programmed, orderBytes}
+use Rattle.updater.specs.Run.{running, fits, currentOrder}
 use Rattle.updater.specs.declared.run.State.{State}
-use Rattle.updater.specs.declared.orders.Operation.the-variants.{Program}
+use Rattle.orders.specs.declared.Operation.the-variants.{Program}
 use Rattle.comparison.proofs.Laws.{filled-length}
+use Rattle.updater.proofs.Laws.{fits-says, fits-own}
 use Rattle.bench.proofs.BenchLaws.{doneBy, program-count, current-most, current-done}
 use borrow.Author.Needs.{needs}
 use Rattle.bench.proofs.obey_order.Statement.{statement}
 use Rattle.bench.proofs.obey_order.Tie as tie
 
 current-operation-requires : tie.Need-current-operation-requires
-current-operation-requires c κs = search needs
+current-operation-requires c κs =
+    let p = c .before .before .pre in
+    (fits-own (c .before .before .args .state) (length (c .before .before .args .image .now)) (p .0), p .1)
+
+-- The operation is the current order's.
+the-order : (c : tie.After-current-operation) → c .current-operation .result ≡ operationOf (currentOrder spi (c .before .before .before .args .state) (c .before .before .before .args .image .now))
+the-order c = let a = c .before .before .before .args in c .current-operation .ensures (a .image .now) (fits-says (a .state) (length (a .image .now)) (c .before .before .before .pre .0) .same)
 
 enum-known-operation : tie.Need-enum-known-operation
 enum-known-operation c = search needs
@@ -46,14 +53,14 @@ array-share-prefix-bytes : tie.Need-array-share-prefix-bytes
 array-share-prefix-bytes c =
     let a = c .before .before .before .before .before .before .before .before .args in
     let p = c .before .before .before .before .before .before .before .before .pre in
-    let m = page-of (a .state) (a .image .now) _ _ _ (p .0) (p .1) (sym (c .before .before .before .before .before .current-operation .ensures) ∙ c .before .before .before .operation2 .given .1) (c .before .current-bytes .ensures) in
+    let m = page-of (a .state) (a .image .now) _ _ _ (p .0) (p .1) (sym (the-order (c .before .before .before .before .before)) ∙ c .before .before .before .operation2 .given .1) (c .before .current-bytes .ensures) in
     omega arith
 
 slice-aggregate-program : tie.Need-slice-aggregate-program
 slice-aggregate-program c =
     let a = c .before .before .before .before .before .before .before .before .before .args in
     let p = c .before .before .before .before .before .before .before .before .before .pre in
-    let m = page-of (a .state) (a .image .now) _ _ _ (p .0) (p .1) (sym (c .before .before .before .before .before .before .current-operation .ensures) ∙ c .before .before .before .before .operation2 .given .1) (c .before .before .current-bytes .ensures) in
+    let m = page-of (a .state) (a .image .now) _ _ _ (p .0) (p .1) (sym (the-order (c .before .before .before .before .before .before)) ∙ c .before .before .before .before .operation2 .given .1) (c .before .before .current-bytes .ensures) in
     sym (length-take-le (c .before .before .before .before .operation2 .given .0 .1 .0) (c .before .before .current-bytes .result) (omega arith))
 
 program-requires : tie.Need-program-requires
@@ -71,7 +78,7 @@ returns c =
     let a = c .before .before .before .before .before .before .before .before .before .before .args in
     let p = c .before .before .before .before .before .before .before .before .before .before .pre in
     c .before .before .erase .ensures
-    ∙ current-done (a .state) (a .image .now) (p .0) (p .1) (a .chip .now) (p .2) _ (sym (c .before .before .before .before .before .before .before .current-operation .ensures) ∙ c .before .before .before .before .before .operation .given .1)
+    ∙ current-done (a .state) (a .image .now) (p .0) (p .1) (a .chip .now) (p .2) _ (sym (the-order (c .before .before .before .before .before .before .before)) ∙ c .before .before .before .before .before .operation .given .1)
 
 same-length-2 : tie.Need-same-length-2
 same-length-2 c = search needs
@@ -85,14 +92,14 @@ returns-2 c =
     let count : ℕ = c .before .before .before .before .before .before .before .operation2 .given .0 .1 .0 in
     c .before .before .program .ensures
     ∙ ap (λ (l : List ℕ). within (a .chip .now) place (length (take count l)) (afterProgram (a .chip .now) place (take count l))) (c .before .before .before .before .before .current-bytes .ensures)
-    ∙ current-done (a .state) (a .image .now) (p .0) (p .1) (a .chip .now) (p .2) _ (sym (c .before .before .before .before .before .before .before .before .before .current-operation .ensures) ∙ c .before .before .before .before .before .before .before .operation2 .given .1)
+    ∙ current-done (a .state) (a .image .now) (p .0) (p .1) (a .chip .now) (p .2) _ (sym (the-order (c .before .before .before .before .before .before .before .before .before)) ∙ c .before .before .before .before .before .before .before .operation2 .given .1)
 
 returns-3 : tie.Need-returns-3
 unfolding doneBy
 returns-3 c =
     let a = c .before .before .before .before .before .args in
     let p = c .before .before .before .before .before .pre in
-    current-done (a .state) (a .image .now) (p .0) (p .1) (a .chip .now) (p .2) _ (sym (c .before .before .current-operation .ensures) ∙ c .enum-told .given .1)
+    current-done (a .state) (a .image .now) (p .0) (p .1) (a .chip .now) (p .2) _ (sym (the-order (c .before .before)) ∙ c .enum-told .given .1)
 
 pub obey-order-spec : {M : Type 1} → statement M
 obey-order-spec =

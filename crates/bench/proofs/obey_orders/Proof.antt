@@ -9,8 +9,7 @@ use lib.ListN.{length}
 use Rattle.chip.specs.Kind.{spi}
 use Rattle.chip.specs.declared.kind.Layout.{Layout}
 use Rattle.chip.proofs.Laws.{spi-lawful}
-use Rattle.updater.specs.Run.{fits}
-use Rattle.updater.specs.Orders.{currentOrder}
+use Rattle.updater.specs.Run.{fits, currentOrder}
 use Rattle.bench.specs.Effects.{obeyed, obeyedAll}
 use Rattle.bench.specs.Bench.{chipAfter}
 use Rattle.updater.specs.declared.run.State.{State}

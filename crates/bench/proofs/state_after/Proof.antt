@@ -3,7 +3,8 @@ use Prim.Native.Nat.{ℕ, _-_, _≤_, min}
 use mathlib.Core.Path.{_≡_, sym, ap₂, subst, _∙_}
 use native.Mathlib.Omega.{arith}
 use borrow.Author.Tests.{lt-ltb, le-ltb}
-use Rattle.updater.specs.Run.{total, first}
+use Rattle.orders.specs.Table.{total}
+use Rattle.updater.specs.Run.{first}
 use Rattle.bench.specs.Bench.{stateAfter}
 use Rattle.updater.specs.declared.run.State.{State}
 use Rattle.bench.proofs.BenchLaws.{Reaches, reaches-first, reaches-next, reaches-ended, reaches-most}

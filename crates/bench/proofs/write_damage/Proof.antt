@@ -1,14 +1,16 @@
 -- `bench::write_damage` meets its contract.
-use mathlib.Core.Path.{sym, ap, _∙_}
+use mathlib.Core.Path.{_≡_, sym, ap, _∙_}
 use mathlib.Core.List.{List}
 use native.Mathlib.Omega.{arith}
 use borrow.Author.Needs.{needs}
 use borrow.Author.Tests.{lt-ltb, le-ltb}
+use lib.ListN.{length}
 use lib.Seq.{length-take-le}
 use Rattle.chip.specs.Kind.{spi}
-use Rattle.updater.specs.Orders.{Order}
+use Rattle.orders.specs.Orders.{Order, operationOf}
 use Rattle.bench.specs.Bench.{cutIn}
-use Rattle.updater.proofs.Laws.{orders-ended}
+use Rattle.updater.proofs.Laws.{orders-ended, fits-says, fits-own}
+use Rattle.updater.specs.Run.{currentOrder}
 use Rattle.bench.proofs.BenchLaws.{leftBy, Enough, current-left, current-enough}
 use Rattle.bench.proofs.write_damage.Statement.{statement}
 use Rattle.bench.proofs.write_damage.Tie as tie
@@ -20,7 +22,12 @@ returns c =
     sym (ap (λ (l : List Order). cutIn l (a .chip .now) (a .damage .now)) (orders-ended spi (a .state) (a .image .now) (c .before .before .before .before .before .pre .0) (le-ltb (a .state .phase) 7 (c .if1 .taken))))
 
 current-operation-requires : tie.Need-current-operation-requires
-current-operation-requires c κs = (c .before .before .before .before .before .pre .0, lt-ltb (c .before .before .before .before .before .args .state .phase) 7 (omega arith))
+current-operation-requires c κs =
+    (fits-own (c .before .before .before .before .before .args .state) (length (c .before .before .before .before .before .args .image .now)) (c .before .before .before .before .before .pre .0), lt-ltb (c .before .before .before .before .before .args .state .phase) 7 (omega arith))
+
+-- The operation is the current order's.
+the-order : (c : tie.After-current-operation) → c .current-operation .result ≡ operationOf (currentOrder spi (c .before .before .before .before .before .before .args .state) (c .before .before .before .before .before .before .args .image .now))
+the-order c = let a = c .before .before .before .before .before .before .args in c .current-operation .ensures (a .image .now) (fits-says (a .state) (length (a .image .now)) (c .before .before .before .before .before .before .pre .0) .same)
 
 enum-known-operation : tie.Need-enum-known-operation
 enum-known-operation c = search needs
@@ -30,7 +37,7 @@ unfolding Enough
 slice-aggregate-write c =
     let a = c .before .before .before .before .before .before .before .before .before .before .before .args in
     let p = c .before .before .before .before .before .before .before .before .before .before .before .pre in
-    let e = current-enough (a .state) (a .image .now) (p .0) (lt-ltb (a .state .phase) 7 (omega arith)) (a .chip .now) (a .damage .now) (p .1) (p .2) _ (sym (c .before .before .before .before .before .current-operation .ensures) ∙ c .before .before .before .operation .given .1) in
+    let e = current-enough (a .state) (a .image .now) (p .0) (lt-ltb (a .state .phase) 7 (omega arith)) (a .chip .now) (a .damage .now) (p .1) (p .2) _ (sym (the-order (c .before .before .before .before .before)) ∙ c .before .before .before .operation .given .1) in
     sym (length-take-le (c .before .before .before .operation .given .0 .1 .0) (a .damage .now) e)
 
 write-requires : tie.Need-write-requires
@@ -44,7 +51,7 @@ unfolding Enough
 slice-aggregate-write-2 c =
     let a = c .before .before .before .before .before .before .before .before .before .before .before .args in
     let p = c .before .before .before .before .before .before .before .before .before .before .before .pre in
-    let e = current-enough (a .state) (a .image .now) (p .0) (lt-ltb (a .state .phase) 7 (omega arith)) (a .chip .now) (a .damage .now) (p .1) (p .2) _ (sym (c .before .before .before .before .before .current-operation .ensures) ∙ c .before .before .before .operation2 .given .1) in
+    let e = current-enough (a .state) (a .image .now) (p .0) (lt-ltb (a .state .phase) 7 (omega arith)) (a .chip .now) (a .damage .now) (p .1) (p .2) _ (sym (the-order (c .before .before .before .before .before)) ∙ c .before .before .before .operation2 .given .1) in
     sym (length-take-le (c .before .before .before .operation2 .given .0 .1 .0) (a .damage .now) e)
 
 write-requires-2 : tie.Need-write-requires-2
@@ -62,7 +69,7 @@ returns-2 c =
     let a = c .before .before .before .before .before .before .before .before .before .before .before .before .before .before .args in
     let p = c .before .before .before .before .before .before .before .before .before .before .before .before .before .before .pre in
     c .before .before .write .ensures
-    ∙ current-left (a .state) (a .image .now) (p .0) (lt-ltb (a .state .phase) 7 (omega arith)) (a .chip .now) (a .damage .now) (p .1) _ (sym (c .before .before .before .before .before .before .before .before .current-operation .ensures) ∙ c .before .before .before .before .before .before .operation .given .1)
+    ∙ current-left (a .state) (a .image .now) (p .0) (lt-ltb (a .state .phase) 7 (omega arith)) (a .chip .now) (a .damage .now) (p .1) _ (sym (the-order (c .before .before .before .before .before .before .before .before)) ∙ c .before .before .before .before .before .before .operation .given .1)
 
 same-length-2 : tie.Need-same-length-2
 same-length-2 c = search needs
@@ -73,14 +80,14 @@ returns-3 c =
     let a = c .before .before .before .before .before .before .before .before .before .before .before .before .before .before .args in
     let p = c .before .before .before .before .before .before .before .before .before .before .before .before .before .before .pre in
     c .before .before .write2 .ensures
-    ∙ current-left (a .state) (a .image .now) (p .0) (lt-ltb (a .state .phase) 7 (omega arith)) (a .chip .now) (a .damage .now) (p .1) _ (sym (c .before .before .before .before .before .before .before .before .current-operation .ensures) ∙ c .before .before .before .before .before .before .operation2 .given .1)
+    ∙ current-left (a .state) (a .image .now) (p .0) (lt-ltb (a .state .phase) 7 (omega arith)) (a .chip .now) (a .damage .now) (p .1) _ (sym (the-order (c .before .before .before .before .before .before .before .before)) ∙ c .before .before .before .before .before .before .operation2 .given .1)
 
 returns-4 : tie.Need-returns-4
 unfolding leftBy
 returns-4 c =
     let a = c .before .before .before .before .before .before .before .before .args in
     let p = c .before .before .before .before .before .before .before .before .pre in
-    current-left (a .state) (a .image .now) (p .0) (lt-ltb (a .state .phase) 7 (omega arith)) (a .chip .now) (a .damage .now) (p .1) _ (sym (c .before .before .current-operation .ensures) ∙ c .enum-told .given .1)
+    current-left (a .state) (a .image .now) (p .0) (lt-ltb (a .state .phase) 7 (omega arith)) (a .chip .now) (a .damage .now) (p .1) _ (sym (the-order (c .before .before)) ∙ c .enum-told .given .1)
 
 pub write-damage-spec : {M : Type 1} → statement M
 write-damage-spec =

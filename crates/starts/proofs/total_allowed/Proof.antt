@@ -6,7 +6,8 @@ use Rattle.base.specs.Question.{ask}
 use Rattle.bootreader.proofs.Laws.{length-allowed}
 use Rattle.chip.proofs.Laws.{onLayout, area-allowed, allowed-asks}
 use Rattle.starts.specs.declared.TotalAnswer.the-variants.{Total}
-use Rattle.updater.proofs.Laws.{total-is, image-most}
+use Rattle.orders.proofs.Laws.{total-is}
+use Rattle.updater.proofs.Laws.{image-most}
 use Rattle.starts.proofs.StartLaws.{total-by}
 use borrow.Author.Needs.{needs}
 use Rattle.starts.proofs.total_allowed.Statement.{statement}

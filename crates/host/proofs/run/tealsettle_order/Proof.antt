@@ -11,8 +11,8 @@ use Rattle.base.specs.Question.{ask}
 use Rattle.chip.specs.Layout.{page}
 use Rattle.flash.specs.Flash.{erased}
 use Rattle.chip.specs.Kind.{spi}
-use Rattle.updater.specs.Run.{running, fits}
-use Rattle.updater.specs.Orders.{Order, erase, program, look, currentOrder, operationOf, programmed, orderBytes}
+use Rattle.orders.specs.Orders.{Order, erase, program, look, operationOf, programmed, orderBytes}
+use Rattle.updater.specs.Run.{running, fits, currentOrder}
 use Rattle.updater.specs.Answers.{ordered, orderRefused, orderAnswer}
 use Rattle.updater.specs.declared.run.State.{State}
 use Rattle.updater.specs.declared.run.OrderAnswer.{OrderAnswer}

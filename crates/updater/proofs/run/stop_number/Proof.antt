@@ -1,6 +1,6 @@
 -- `run::stop_number` meets its contract.
 use mathlib.Core.Path.{refl, sym}
-use Rattle.updater.specs.Run.{byPhase}
+use Rattle.orders.specs.Table.{byPhase}
 use Rattle.updater.specs.Answers.{stopOf}
 use Rattle.updater.proofs.CallLaws.{stop-none}
 use Rattle.updater.proofs.run.stop_number.Statement.{statement}

@@ -3,6 +3,8 @@ use mathlib.Core.Path.{refl, sym, _∙_}
 use borrow.Author.Tests.{lt-ltb, le-ltb, not-true, not-false}
 use Rattle.base.specs.Question.{ask}
 use Rattle.updater.specs.Answers.{orderAnswer}
+use Rattle.updater.proofs.RunLaws.{fits-says}
+use Rattle.updater.proofs.CallLaws.{fits-own}
 use borrow.Author.Needs.{needs}
 use Rattle.updater.proofs.run.State.order.Statement.{statement}
 use Rattle.updater.proofs.run.State.order.Tie as tie
@@ -25,7 +27,8 @@ unfolding orderAnswer ask
 returns-2 c = rw (sym (c .before .before .before .before .fits-image .ensures) ∙ not-false _ (c .before .before .before .if1 .left), le-ltb _ 7 (c .before .if2 .taken)) (c .no-order2 .ensures)
 
 current-operation-requires : tie.Need-current-operation-requires
-current-operation-requires c κs = (sym (c .before .before .before .fits-image .ensures) ∙ not-false _ (c .before .before .if1 .left), lt-ltb _ 7 (c .if2 .left))
+current-operation-requires c κs =
+    (fits-own (c .before .before .before .before .before .args .self) _ (sym (c .before .before .before .fits-image .ensures) ∙ not-false _ (c .before .before .if1 .left)), lt-ltb _ 7 (c .if2 .left))
 
 current-bytes-requires : tie.Need-current-bytes-requires
 current-bytes-requires c κs = (sym (c .before .before .before .before .fits-image .ensures) ∙ not-false _ (c .before .before .before .if1 .left), lt-ltb _ 7 (c .before .if2 .left))
@@ -33,7 +36,10 @@ current-bytes-requires c κs = (sym (c .before .before .before .before .fits-ima
 returns-3 : tie.Need-returns-3
 unfolding orderAnswer ask
 returns-3 c =
-    rw (sym (c .before .before .before .before .before .fits-image .ensures) ∙ not-false _ (c .before .before .before .before .if1 .left), lt-ltb _ 7 (c .before .before .if2 .left), c .before .current-operation .ensures, c .current-bytes .ensures) refl
+    let args = c .before .before .before .before .before .before .before .args in
+    let fitting = sym (c .before .before .before .before .before .fits-image .ensures) ∙ not-false _ (c .before .before .before .before .if1 .left) in
+    let operation = c .before .current-operation .ensures (args .image .now) (fits-says (args .self) _ fitting .same) in
+    rw (fitting, lt-ltb _ 7 (c .before .before .if2 .left), operation, c .current-bytes .ensures) refl
 
 pub order-spec : {M : Type 1} → statement M
 order-spec =

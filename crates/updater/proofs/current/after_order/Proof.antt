@@ -4,8 +4,8 @@ use native.Mathlib.Omega.{arith}
 use Rattle.updater.proofs.RunLaws.{running-says, after-index, after-phase}
 use Rattle.updater.proofs.CallLaws.{places-small}
 use borrow.Author.Needs.{needs}
-use Rattle.updater.proofs.orders.after_order.Statement.{statement}
-use Rattle.updater.proofs.orders.after_order.Tie as tie
+use Rattle.updater.proofs.current.after_order.Statement.{statement}
+use Rattle.updater.proofs.current.after_order.Tie as tie
 
 add-if1 : tie.Need-add-if1
 add-if1 c =

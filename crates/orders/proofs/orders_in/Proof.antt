@@ -1,10 +1,10 @@
--- `run::orders_in` meets its contract.
+-- `orders_in` meets its contract.
 use mathlib.Core.Path.{refl, sym}
-use Rattle.updater.specs.Run.{byPhase, count}
-use Rattle.updater.proofs.CallLaws.{rounded-up, count-none}
+use Rattle.orders.specs.Table.{byPhase, count}
+use Rattle.orders.proofs.TableLaws.{rounded-up, count-none}
 use borrow.Author.Needs.{needs}
-use Rattle.updater.proofs.orders.orders_in.Statement.{statement}
-use Rattle.updater.proofs.orders.orders_in.Tie as tie
+use Rattle.orders.proofs.orders_in.Statement.{statement}
+use Rattle.orders.proofs.orders_in.Tie as tie
 
 add-result : tie.Need-add-result
 add-result c = search needs

@@ -1,16 +1,15 @@
 -- The orders of a run. Document 01, "Orders of one run" and question 9.
 use Prim.Native.Nat.{ℕ, zero, suc, _+_, _*_}
 use mathlib.Core.List.{List, [], _∷_, _++_}
-use lib.ListN.{length, getD}
+use lib.ListN.{length}
 use Rattle.chip.specs.Layout.{page, segment, switchAt}
 use Rattle.flash.specs.Flash.{erased, span}
 use Rattle.chip.specs.Kind.{Kind}
 use Rattle.chip.specs.declared.kind.Layout.{Layout}
 use Rattle.comparison.specs.Comparison.{filled}
-use Rattle.updater.specs.Run.{byPhase, count, position}
-use Rattle.updater.specs.declared.run.State.{State}
-use Rattle.updater.specs.declared.orders.Operation.{Operation}
-use Rattle.updater.specs.declared.orders.Operation.the-variants.{Erase, Program, Look}
+use Rattle.orders.specs.Table.{byPhase, count}
+use Rattle.orders.specs.declared.Operation.{Operation}
+use Rattle.orders.specs.declared.Operation.the-variants.{Erase, Program, Look}
 
 -- An order: an erase of so many bytes, a program of bytes, or a look, with the bytes that must stand there.
 pub data Order : Type 0 where
@@ -57,10 +56,6 @@ ordersBefore kind layout image (suc phase) =
 -- ALL ORDERS OF A RUN, in order.
 abbrev pub orders : Kind → Layout → List ℕ → List Order
 orders kind layout image = ordersBefore kind layout image 7
-
--- The current order is the one at the state's position. (A state that fits, before phase 7, has one; no other gets as far.)
-abbrev pub currentOrder : Kind → State → List ℕ → Order
-currentOrder kind state image = getD (orders kind (state .layout) image) (position state) (erase 0 0)
 
 -- An order as the code's enum, and the bytes that it programs.
 unfoldable pub operationOf : Order → Operation

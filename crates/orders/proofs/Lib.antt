@@ -1,0 +1,4 @@
+pub mod TableLaws
+pub mod OrderLaws
+pub mod CarriedLaws
+pub mod Laws

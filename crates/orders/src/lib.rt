@@ -1,0 +1,113 @@
+// The orders of a run, by the table of document 01: how many a phase has, and what each is. An order is an
+// operation on the chip that the run asks for: an erase, a program or a look. For the crates above it alone:
+// its functions ask their caller for an index that the phase has.
+ghost use mathlib.Core.Path.{_≡_};
+ghost use Prim.Native.Nat.{ℕ, _+_, _*_, _<_};
+ghost use mathlib.Core.List.{List};
+ghost use lib.ListN.{length};
+ghost use Rattle.chip.specs.Layout.{page};
+ghost use Rattle.chip.specs.Kind.{spi, spiOn};
+ghost use Rattle.chip.specs.declared.kind.Layout.{Layout};
+ghost use Rattle.orders.specs.Table.{count};
+ghost use Rattle.orders.specs.Orders.{pageOf, orderOf, operationOf, orderBytes};
+ghost use Rattle.orders.specs.Carried.{carried};
+use base::smaller;
+use chip::kind::Layout;
+use chip::kind::Spi;
+use comparison::filled_page;
+
+// What is to be done with the chip: an erase of `length` bytes from `place` on, a program of as many, or
+// a look at as many.
+pub enum Operation {
+    Erase { place: usize, length: usize },
+    Program { place: usize, length: usize },
+    Look { place: usize, length: usize },
+}
+
+// How many orders a phase has.
+pub fn orders_in(layout: Layout, length: usize, phase: u32) -> usize
+    ensures { λ r. ⌜ r ≡ count layout length phase ⌝ }
+{
+    match phase {
+        0 => 1,
+        1 => Spi::SEGMENT / Spi::PAGE,
+        2 => layout.area / Spi::SEGMENT,
+        3 => length / Spi::PAGE + (length % Spi::PAGE + 255) / Spi::PAGE,
+        4 => layout.area / Spi::PAGE,
+        5 => 1,
+        6 => 1,
+        _ => 0,
+    }
+}
+
+// An order of a phase, as far as it can be said without the bytes that it programs.
+pub fn operation_at(layout: Layout, n: usize, phase: u32, index: usize) -> Operation
+    requires { ⌜ (index < count layout n phase) × (layout .update + page * index < 16777216) ⌝ }
+    ensures { λ r. ⌜ ((image : List ℕ) → length image ≡ n → r ≡ operationOf (orderOf spi layout image phase index)) ⌝ }
+{
+    let page = layout.update + Spi::PAGE * index;
+    match phase {
+        0 => Operation::Erase {
+            place: 0,
+            length: Spi::SEGMENT,
+        },
+        1 => Operation::Look {
+            place: Spi::PAGE * index,
+            length: Spi::PAGE,
+        },
+        2 => Operation::Erase {
+            place: layout.update + Spi::SEGMENT * index,
+            length: Spi::SEGMENT,
+        },
+        3 => Operation::Program {
+            place: page,
+            length: smaller(n - Spi::PAGE * index, Spi::PAGE),
+        },
+        4 => Operation::Look {
+            place: page,
+            length: Spi::PAGE,
+        },
+        5 => Operation::Program {
+            place: Spi::SWITCH,
+            length: 4,
+        },
+        _ => Operation::Look {
+            place: Spi::SWITCH,
+            length: 4,
+        },
+    }
+}
+
+// A page of an image: the last is what remains, and there is nothing after it.
+fn image_page<'a>(image: &'a [u8], index: usize) -> &'a [u8]
+    requires { ⌜ page * index < 16777216 ⌝ }
+    ensures { λ r. ⌜ now r ≡ pageOf (now (image .entry)) index ⌝ }
+{
+    let from = smaller(Spi::PAGE * index, image.len());
+    let to = smaller(from + Spi::PAGE, image.len());
+    &image[from..to]
+}
+
+// What an order programs, or looks for before the FF: a page of the image, ON, or nothing.
+pub fn carried_bytes<'a>(image: &'a [u8], phase: u32, index: usize, on: &'a [u8]) -> &'a [u8]
+    requires { ⌜ (page * index < 16777216) × (now on ≡ spiOn) ⌝ }
+    ensures { λ r. ⌜ now r ≡ carried spi (now (image .entry)) phase index ⌝ }
+{
+    match phase {
+        3 | 4 => image_page(image, index),
+        5 | 6 => on,
+        _ => &image[0..0],
+    }
+}
+
+// The bytes that an order programs, then FF; all FF where it programs nothing.
+pub fn bytes_at(image: &[u8], phase: u32, index: usize) -> [u8; 256]
+    requires { ⌜ page * index < 16777216 ⌝ }
+    ensures { λ r. ⌜ ((layout : Layout) → r ≡ orderBytes (orderOf spi layout (now (image .entry)) phase index)) ⌝ }
+{
+    let on = Spi::ON;
+    match phase {
+        3 | 5 => filled_page(carried_bytes(image, phase, index, &on)),
+        _ => [0xFF; 256],
+    }
+}
