@@ -1,5 +1,4 @@
 -- What crates above may count on of the bench, beside its contract.
 pub use Rattle.bench.proofs.MixtureLaws.{allows-may}
-pub use Rattle.bench.proofs.ReachLaws.{in-reach}
-pub use Rattle.bench.proofs.BenchLaws.{Blank, by-start, order-within, span-size}
+pub use Rattle.bench.proofs.BenchLaws.{by-start}
 unfoldable pub use Rattle.bench.proofs.BenchLaws.{onStart}

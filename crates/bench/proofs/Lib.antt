@@ -1,4 +1,3 @@
 pub mod MixtureLaws
-pub mod ReachLaws
 pub mod BenchLaws
 pub mod Laws

@@ -17,7 +17,7 @@ use Rattle.chip.specs.Layout.{segment}
 use Rattle.flash.specs.Flash.{span, bit, Mixed}
 use Rattle.chip.specs.Cut.{MayLeave}
 use Rattle.flash.proofs.Laws.{span-length, same-bits, bit-most, bit-and}
-use Rattle.bench.specs.Effects.{Bytes}
+use Rattle.effects.specs.Effects.{Bytes}
 use Rattle.bench.specs.Bench.{mixture, spanAllows}
 
 -- one byte: no bit of the new one differs from both

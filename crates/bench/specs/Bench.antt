@@ -1,5 +1,5 @@
 -- The bench: a run on a chip's bytes, cut after k orders. Document 01, "Orders of one run" and question 10.
-use Prim.Native.Nat.{ℕ, zero, suc, min}
+use Prim.Native.Nat.{ℕ}
 use mathlib.Core.Bool.{Bool, true, false, _&&_}
 use mathlib.Core.List.{List, [], _∷_}
 use lib.Bits.{bitAnd, bitXor}
@@ -11,12 +11,10 @@ use Rattle.flash.specs.Flash.{span}
 use Rattle.chip.specs.Kind.{Kind}
 use Rattle.chip.specs.Answers.{layoutOf}
 use Rattle.chip.specs.declared.kind.Layout.{Layout}
-use Rattle.orders.specs.Table.{total}
 use Rattle.orders.specs.Orders.{Order, erase, program, look, orders}
-use Rattle.updater.specs.Run.{first, after}
-use Rattle.bench.specs.Effects.{placeOf, obeyedSpan, leaves, obeyedAll}
+use Rattle.effects.specs.Effects.{placeOf, obeyedSpan, leaves}
+use Rattle.effects.specs.Progress.{chipAfter, stateAt}
 use Rattle.starts.specs.Starts.{askRun}
-use Rattle.updater.specs.declared.run.State.{State}
 use Rattle.bench.specs.declared.BenchAnswer.{BenchAnswer}
 use Rattle.bench.specs.declared.BenchAnswer.the-variants.{Reached, Refused}
 
@@ -50,19 +48,6 @@ cutAllowed (order ∷ more) chip damage = damageAllowed order chip damage
 unfoldable pub cutIn : List Order → List ℕ → List ℕ → List ℕ
 cutIn [] chip damage = chip
 cutIn (order ∷ more) chip damage = leaves order chip (take (length (obeyedSpan order chip)) damage)
-
--- The first k orders are obeyed in full. The chip that question 10 calls old is the one after them.
-abbrev pub chipAfter : Kind → Layout → List ℕ → ℕ → List ℕ → List ℕ
-chipAfter kind layout image k chip = obeyedAll (take k (orders kind layout image)) chip
-
--- the state after so many orders
-unfoldable pub stateAfter : ℕ → State → State
-stateAfter zero state = state
-stateAfter (suc more) state = stateAfter more (after state)
-
--- With k at or above the total the run ends.
-abbrev pub stateAt : Layout → List ℕ → ℕ → State
-stateAt layout image k = stateAfter (min k (total layout (length image))) (first layout (length image))
 
 -- `bench::cut_run`: questions 1 to 5, then 10; the run's state before order k + 1, and the chip as it then stands. F is the length of the chip's bytes.
 unfoldable pub benchAnswer : Kind → Layout → List ℕ → List ℕ → ℕ → List ℕ → BenchAnswer

@@ -1,3 +1,2 @@
--- What the contract of the bench says: what an order does to a chip, and a run that is cut.
-pub mod Effects
+-- What the contract of the bench says: a run that is cut.
 pub mod Bench

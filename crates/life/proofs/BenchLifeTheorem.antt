@@ -8,7 +8,8 @@ use Rattle.base.proofs.Laws.{asked}
 use Rattle.chip.specs.Kind.{Kind, Lawful}
 use Rattle.orders.specs.Orders.{orders}
 use Rattle.starts.specs.Starts.{startAnswer}
-use Rattle.bench.specs.Bench.{cutAllowed, chipAfter, stateAt, benchAnswer, benchOutput}
+use Rattle.effects.specs.Progress.{chipAfter, stateAt}
+use Rattle.bench.specs.Bench.{cutAllowed, benchAnswer, benchOutput}
 use Rattle.life.specs.Life.{fresh, Valid, life}
 use Rattle.life.specs.BenchLife.{benchRun, BenchLives}
 use Rattle.starts.specs.declared.StartAnswer.{StartAnswer}

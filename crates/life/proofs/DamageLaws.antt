@@ -6,10 +6,11 @@ use mathlib.Core.List.{List}
 use native.Mathlib.Omega.{arith}
 use lib.ListN.{length, take}
 use Rattle.orders.specs.Orders.{Order, erase, program, look}
-use Rattle.bench.specs.Effects.{placeOf, obeyedSpan, spanOf, Bytes}
+use Rattle.effects.specs.Effects.{placeOf, obeyedSpan, spanOf, Bytes}
 use Rattle.bench.specs.Bench.{damageAllowed}
 use Rattle.life.specs.Life.{MayBeLeft}
-use Rattle.bench.proofs.Laws.{allows-may, span-size}
+use Rattle.effects.proofs.Laws.{span-size}
+use Rattle.bench.proofs.Laws.{allows-may}
 
 -- What question 10 allows a cut order to leave, a life allows.
 pub damage-may : (o : Order) (chip damage : List ℕ) → placeOf o + spanOf o ≤ length chip → Bytes damage → damageAllowed o chip damage ≡ true →

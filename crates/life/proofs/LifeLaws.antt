@@ -23,7 +23,7 @@ use Rattle.orders.specs.Table.{byPhase, count}
 use Rattle.orders.specs.Orders.{Order, erase, program, look, pageOf, orderOf}
 use Rattle.updater.specs.Run.{after, ended, running, fits}
 use Rattle.comparison.specs.Comparison.{filled, differs}
-use Rattle.bench.specs.Effects.{obeyedSpan, leaves}
+use Rattle.effects.specs.Effects.{obeyedSpan, leaves}
 use Rattle.starts.specs.Starts.{startAnswer}
 use Rattle.updater.specs.Answers.{stopOf, replyAnswer}
 use Rattle.life.specs.OrderList.{Replies, Moved}

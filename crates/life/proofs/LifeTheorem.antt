@@ -14,7 +14,7 @@ use Rattle.chip.specs.Kind.{Kind, goldenArea, Loads, Good, Stands, Lawful}
 use Rattle.chip.specs.declared.kind.Layout.{Layout}
 use Rattle.starts.specs.Starts.{startAnswer}
 use Rattle.life.specs.Life.{Run, World, onRun, Event, Valid, life, isOn, uncut, Loading, Updates, OrderedLoads, Claim, Begins, Demand3}
-use Rattle.bench.specs.Effects.{Bytes}
+use Rattle.effects.specs.Effects.{Bytes}
 use Rattle.updater.specs.declared.run.State.{State}
 use Rattle.starts.specs.declared.StartAnswer.the-variants.{Started}
 use Rattle.starts.proofs.Laws.{opened}

@@ -11,7 +11,7 @@ use Rattle.flash.specs.Flash.{erased, span, over, afterProgram}
 use Rattle.flash.proofs.Laws.{span-at, span-length, over-length, over-before, over-inside, over-after, erased-length, erased-at, cleared-length, cleared-at}
 use Rattle.chip.proofs.Laws.{obeyed-may}
 use Rattle.orders.specs.Orders.{Order, erase, program, look}
-use Rattle.bench.specs.Effects.{obeyedSpan, leaves, obeyed}
+use Rattle.effects.specs.Effects.{obeyedSpan, leaves, obeyed}
 use Rattle.life.specs.Life.{MayBeLeft, saidTo, readBy}
 use Rattle.life.specs.OrderList.{Replies}
 

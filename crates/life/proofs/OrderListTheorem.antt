@@ -6,9 +6,9 @@ use Rattle.chip.specs.Kind.{Kind, Lawful}
 use Rattle.orders.specs.Table.{count, before}
 use Rattle.orders.specs.Orders.{Order}
 use Rattle.updater.specs.Run.{position}
-use Rattle.bench.specs.Effects.{placeOf, spanOf, InReach, OnePage}
+use Rattle.effects.specs.Effects.{placeOf, spanOf, InReach, OnePage}
 use Rattle.updater.specs.Answers.{read}
-use Rattle.bench.proofs.Laws.{in-reach}
+use Rattle.effects.proofs.Laws.{in-reach}
 use Rattle.life.specs.OrderList.{Demand2}
 use Rattle.orders.proofs.Laws.{orders-length}
 use Rattle.updater.proofs.Laws.{Numbers, fits-says, running-says, after-position, position-running, position-ended, current-order}

@@ -16,11 +16,11 @@ use Rattle.chip.proofs.Laws.{update-allowed, area-allowed}
 use Rattle.orders.specs.Table.{byPhase, pages, count}
 use Rattle.orders.specs.Orders.{erase, program, pageOf, orderOf}
 use Rattle.comparison.specs.Comparison.{filled}
-use Rattle.bench.specs.Effects.{leaves, obeyed, Bytes}
+use Rattle.effects.specs.Effects.{leaves, obeyed, Bytes}
 use Rattle.orders.proofs.Laws.{phases, area-segments, image-pages, area-pages, page-at, page-length}
 use Rattle.updater.proofs.Laws.{Numbers, numbers-image}
 use Rattle.comparison.proofs.Laws.{filled-at, filled-length}
-use Rattle.bench.proofs.Laws.{Blank}
+use Rattle.effects.proofs.Laws.{Blank}
 use Rattle.life.proofs.ObeyLaws.{Obeys, erase-obeys, erase-before, erase-inside, program-obeys, program-before, program-inside, program-after, look-obeys}
 use Rattle.base.proofs.Laws.{below-or-not}
 

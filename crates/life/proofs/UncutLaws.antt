@@ -15,7 +15,7 @@ use Rattle.chip.specs.declared.kind.Layout.{Layout}
 use Rattle.orders.specs.Table.{byPhase, count, before, total}
 use Rattle.orders.specs.Orders.{Order, erase, program, look, orderOf, orders}
 use Rattle.updater.specs.Run.{position, first, after, ended, running, fits, currentOrder}
-use Rattle.bench.specs.Effects.{placeOf, obeyedSpan, obeyed, obeyedAll, spanOf, Bytes}
+use Rattle.effects.specs.Effects.{placeOf, obeyedSpan, obeyed, obeyedAll, spanOf, Bytes}
 use Rattle.starts.specs.Starts.{startAnswer}
 use Rattle.updater.specs.Answers.{replyAnswer}
 use Rattle.bench.specs.Bench.{cutAllowed, cutIn}
@@ -30,7 +30,7 @@ use Rattle.updater.proofs.Laws.{Numbers, running-says, after-index, after-phase
 use Rattle.starts.proofs.Laws.{starts as start-accepted}
 use Rattle.life.proofs.ReplyLaws.{moves}
 use Rattle.life.proofs.ObeyLaws.{Obeys}
-use Rattle.bench.proofs.Laws.{order-within}
+use Rattle.effects.proofs.Laws.{order-within}
 use Rattle.life.proofs.DamageLaws.{damage-may}
 use Rattle.life.proofs.ProgressLaws.{Progress, Advances, Step, advances, ends-on}
 

@@ -6,7 +6,7 @@ use lib.ListN.{length, take}
 use Rattle.chip.specs.Kind.{Kind}
 use Rattle.chip.specs.declared.kind.Layout.{Layout}
 use Rattle.orders.specs.Orders.{Order, orders}
-use Rattle.bench.specs.Effects.{obeyedSpan, obeyed, Bytes}
+use Rattle.effects.specs.Effects.{obeyedSpan, obeyed, Bytes}
 use Rattle.bench.specs.Bench.{benchAnswer, benchOutput}
 use Rattle.life.specs.Life.{fresh, Event, starts, carries, replies, cuts, Valid, life, saidTo, readBy}
 use Rattle.updater.specs.declared.run.State.{State}

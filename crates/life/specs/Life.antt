@@ -14,7 +14,7 @@ use Rattle.chip.specs.declared.kind.Layout.{Layout}
 use Rattle.orders.specs.Orders.{Order, erase, program, look, orders}
 use Rattle.updater.specs.Run.{running, first, ended, currentOrder}
 use Rattle.comparison.specs.Comparison.{differs}
-use Rattle.bench.specs.Effects.{obeyedSpan, leaves, obeyed, Bytes}
+use Rattle.effects.specs.Effects.{obeyedSpan, leaves, obeyed, Bytes}
 use Rattle.starts.specs.Starts.{startAnswer}
 use Rattle.updater.specs.Answers.{replyAnswer, done, read}
 use Rattle.updater.specs.declared.run.State.{State}

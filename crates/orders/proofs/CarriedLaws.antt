@@ -15,7 +15,7 @@ use Rattle.comparison.proofs.Laws.{filled-length}
 use Rattle.orders.specs.Table.{byPhase}
 use Rattle.orders.specs.Orders.{pageOf, orderOf, operationOf, programmed, lookedFor}
 use Rattle.orders.specs.Carried.{carried}
-use Rattle.orders.specs.declared.Operation.the-variants.{Erase, Program, Look}
+use Rattle.orders.specs.declared.Operation.the-variants.{Look}
 use Rattle.orders.proofs.OrderLaws.{page-length}
 
 -- Phases 3 and 4 carry a page of the image, 5 and 6 the ON word, and no other phase anything.

@@ -10,7 +10,8 @@ use Rattle.chip.specs.Kind.{spi}
 use Rattle.chip.specs.declared.kind.Layout.{Layout}
 use Rattle.orders.specs.Orders.{Order, orders}
 use Rattle.updater.specs.Run.{first}
-use Rattle.bench.specs.Bench.{cutAllowed, cutIn, chipAfter, benchOutput}
+use Rattle.effects.specs.Progress.{chipAfter}
+use Rattle.bench.specs.Bench.{cutAllowed, cutIn, benchOutput}
 use Rattle.bench.specs.declared.BenchAnswer.the-variants.{Reached}
 use Rattle.updater.proofs.Laws.{fits-says, fits-own}
 use Rattle.bench.proofs.BenchLaws.{CutAt, cut-at}

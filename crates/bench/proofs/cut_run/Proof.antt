@@ -13,7 +13,8 @@ use Rattle.chip.proofs.Laws.{spi-lawful}
 use Rattle.orders.specs.Orders.{orders}
 use Rattle.updater.specs.Run.{first, fits}
 use Rattle.starts.specs.Starts.{startAnswer}
-use Rattle.bench.specs.Bench.{cutAllowed, chipAfter, stateAt, benchAnswer, benchOutput}
+use Rattle.effects.specs.Progress.{chipAfter, stateAt}
+use Rattle.bench.specs.Bench.{cutAllowed, benchAnswer, benchOutput}
 use Rattle.updater.specs.declared.run.State.{State}
 use Rattle.starts.specs.declared.StartAnswer.{StartAnswer}
 use Rattle.starts.specs.declared.StartAnswer.the-variants.{Started}

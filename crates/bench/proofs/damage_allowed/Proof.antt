@@ -11,12 +11,14 @@ use Rattle.flash.specs.Flash.{erased, span}
 use Rattle.chip.specs.Kind.{spi}
 use Rattle.orders.specs.Orders.{Order, orders, operationOf}
 use Rattle.updater.specs.Run.{position, running, fits, currentOrder}
-use Rattle.bench.specs.Bench.{spanAllows, cutAllowed, chipAfter}
+use Rattle.effects.specs.Progress.{chipAfter}
+use Rattle.bench.specs.Bench.{spanAllows, cutAllowed}
 use Rattle.updater.specs.declared.run.State.{State}
 use Rattle.orders.specs.declared.Operation.{Operation}
 use Rattle.orders.specs.declared.Operation.the-variants.{Erase}
 use Rattle.updater.proofs.Laws.{orders-ended, fits-says, fits-own}
-use Rattle.bench.proofs.BenchLaws.{asksOf, LowIsOn, erase-span, current-within, current-low, current-asked}
+use Rattle.effects.proofs.Laws.{erase-span, current-within}
+use Rattle.bench.proofs.BenchLaws.{asksOf, LowIsOn, current-low, current-asked}
 use Rattle.bench.proofs.damage_allowed.Statement.{statement}
 use Rattle.bench.proofs.damage_allowed.Tie as tie
 

@@ -1,5 +1,4 @@
 -- `image_page` meets its contract.
-use mathlib.Core.Path.{_∙_}
 use borrow.Author.Needs.{needs}
 use Rattle.orders.proofs.OrderLaws.{page-part}
 use Rattle.orders.proofs.image_page.Statement.{statement}

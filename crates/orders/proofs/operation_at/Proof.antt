@@ -1,11 +1,11 @@
 -- `operation_at` meets its contract.
-use Prim.Native.Nat.{ℕ, _+_, _-_, _*_, min}
+use Prim.Native.Nat.{_+_, _-_, _*_}
 use mathlib.Core.Path.{_≡_, refl, sym, ap, _∙_}
 use native.Mathlib.Omega.{arith}
 use lib.ListN.{length}
 use Rattle.chip.specs.Layout.{page}
 use Rattle.comparison.proofs.Laws.{filled-length}
-use Rattle.orders.specs.Table.{byPhase, count}
+use Rattle.orders.specs.Table.{byPhase}
 use Rattle.orders.specs.Orders.{pageOf, orderOf, operationOf}
 use Rattle.orders.specs.declared.Operation.the-variants.{Program, Look}
 use Rattle.orders.proofs.TableLaws.{image-pages, last-phase}

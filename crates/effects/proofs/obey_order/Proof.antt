@@ -1,4 +1,4 @@
--- `bench::obey_order` meets its contract.
+-- `effects::obey_order` meets its contract.
 use Prim.Native.Nat.{ℕ, _≤_}
 use mathlib.Core.Path.{_≡_, sym, ap, _∙_}
 use mathlib.Core.Bool.{true}
@@ -15,10 +15,10 @@ use Rattle.updater.specs.declared.run.State.{State}
 use Rattle.orders.specs.declared.Operation.the-variants.{Program}
 use Rattle.comparison.proofs.Laws.{filled-length}
 use Rattle.updater.proofs.Laws.{fits-says, fits-own}
-use Rattle.bench.proofs.BenchLaws.{doneBy, program-count, current-most, current-done}
+use Rattle.effects.proofs.ProgressLaws.{doneBy, program-count, current-most, current-done}
 use borrow.Author.Needs.{needs}
-use Rattle.bench.proofs.obey_order.Statement.{statement}
-use Rattle.bench.proofs.obey_order.Tie as tie
+use Rattle.effects.proofs.obey_order.Statement.{statement}
+use Rattle.effects.proofs.obey_order.Tie as tie
 
 current-operation-requires : tie.Need-current-operation-requires
 current-operation-requires c κs =

@@ -15,7 +15,7 @@ use Rattle.orders.specs.Table.{byPhase, count}
 use Rattle.orders.specs.Orders.{pageOf, orderOf}
 use Rattle.orders.proofs.Laws.{phases, area-segments, image-pages, area-pages}
 use Rattle.updater.proofs.Laws.{Numbers, numbers-image}
-use Rattle.bench.specs.Effects.{placeOf, spanOf, InReach, OnePage}
+use Rattle.effects.specs.Effects.{placeOf, spanOf, InReach, OnePage}
 
 -- how long a page of an image is
 page-most : (image : List ℕ) (i : ℕ) → page * i < length image → (1 ≤ length (pageOf image i)) × (length (pageOf image i) ≤ page) × (page * i + length (pageOf image i) ≤ length image)

@@ -1,16 +1,16 @@
--- `bench::state_after` meets its contract. The loop's invariant: the state after i orders.
+-- `effects::state_after` meets its contract. The loop's invariant: the state after i orders.
 use Prim.Native.Nat.{ℕ, _-_, _≤_, min}
 use mathlib.Core.Path.{_≡_, sym, ap₂, subst, _∙_}
 use native.Mathlib.Omega.{arith}
 use borrow.Author.Tests.{lt-ltb, le-ltb}
 use Rattle.orders.specs.Table.{total}
 use Rattle.updater.specs.Run.{first}
-use Rattle.bench.specs.Bench.{stateAfter}
+use Rattle.effects.specs.Progress.{stateAfter}
 use Rattle.updater.specs.declared.run.State.{State}
-use Rattle.bench.proofs.BenchLaws.{Reaches, reaches-first, reaches-next, reaches-ended, reaches-most}
+use Rattle.effects.proofs.ProgressLaws.{Reaches, reaches-first, reaches-next, reaches-ended, reaches-most}
 use Rattle.updater.proofs.Laws.{fits-own}
-use Rattle.bench.proofs.state_after.Statement.{statement}
-use Rattle.bench.proofs.state_after.Tie as tie
+use Rattle.effects.proofs.state_after.Statement.{statement}
+use Rattle.effects.proofs.state_after.Tie as tie
 
 abbrev Inv-loop : tie.InvT-loop
 Inv-loop cut state₀ i₀ state i = (i ≤ cut) × Reaches (state₀ .layout) (state₀ .length) i state

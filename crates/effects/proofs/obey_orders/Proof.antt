@@ -1,4 +1,4 @@
--- `bench::obey_orders` meets its contract. The loop's invariant: the state and the chip after i orders.
+-- `effects::obey_orders` meets its contract. The loop's invariant: the state and the chip after i orders.
 use Prim.Native.Nat.{ℕ, _-_, _≤_}
 use mathlib.Core.Path.{_≡_, refl, sym, ap, subst, _∙_}
 use mathlib.Core.Bool.{true}
@@ -10,13 +10,13 @@ use Rattle.chip.specs.Kind.{spi}
 use Rattle.chip.specs.declared.kind.Layout.{Layout}
 use Rattle.chip.proofs.Laws.{spi-lawful}
 use Rattle.updater.specs.Run.{fits, currentOrder}
-use Rattle.bench.specs.Effects.{obeyed, obeyedAll}
-use Rattle.bench.specs.Bench.{chipAfter}
+use Rattle.effects.specs.Effects.{obeyed, obeyedAll}
+use Rattle.effects.specs.Progress.{chipAfter}
 use Rattle.updater.specs.declared.run.State.{State}
 use Rattle.updater.proofs.Laws.{fits-own}
-use Rattle.bench.proofs.BenchLaws.{Reaches, reaches-first, reaches-next, reaches-ended, reaches-most, chip-next, chip-all, chip-length}
-use Rattle.bench.proofs.obey_orders.Statement.{statement}
-use Rattle.bench.proofs.obey_orders.Tie as tie
+use Rattle.effects.proofs.ProgressLaws.{Reaches, reaches-first, reaches-next, reaches-ended, reaches-most, chip-next, chip-all, chip-length}
+use Rattle.effects.proofs.obey_orders.Statement.{statement}
+use Rattle.effects.proofs.obey_orders.Tie as tie
 
 abbrev Inv-loop : tie.InvT-loop
 Inv-loop chip₀ image cut state₀ i₀ chip state i = (i ≤ cut) × Reaches (state₀ .layout) (length image) i state × (chip ≡ chipAfter spi (state₀ .layout) image i chip₀)

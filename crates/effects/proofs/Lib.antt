@@ -1,0 +1,3 @@
+pub mod ReachLaws
+pub mod ProgressLaws
+pub mod Laws

@@ -1,0 +1,3 @@
+-- What the contracts of this crate say: what an order does to a chip, and where a run is after so many of them.
+pub mod Effects
+pub mod Progress

@@ -1,0 +1,24 @@
+-- A run on a chip that obeys: the chip, and the run's state, after so many orders. Document 01, "Orders of one run".
+use Prim.Native.Nat.{ℕ, zero, suc, min}
+use mathlib.Core.List.{List}
+use lib.ListN.{length, take}
+use Rattle.chip.specs.Kind.{Kind}
+use Rattle.chip.specs.declared.kind.Layout.{Layout}
+use Rattle.orders.specs.Table.{total}
+use Rattle.orders.specs.Orders.{orders}
+use Rattle.updater.specs.Run.{first, after}
+use Rattle.updater.specs.declared.run.State.{State}
+use Rattle.effects.specs.Effects.{obeyedAll}
+
+-- The first k orders are obeyed in full. The chip that question 10 calls old is the one after them.
+abbrev pub chipAfter : Kind → Layout → List ℕ → ℕ → List ℕ → List ℕ
+chipAfter kind layout image k chip = obeyedAll (take k (orders kind layout image)) chip
+
+-- the state after so many orders
+unfoldable pub stateAfter : ℕ → State → State
+stateAfter zero state = state
+stateAfter (suc more) state = stateAfter more (after state)
+
+-- With k at or above the total the run ends.
+abbrev pub stateAt : Layout → List ℕ → ℕ → State
+stateAt layout image k = stateAfter (min k (total layout (length image))) (first layout (length image))
