@@ -31,8 +31,8 @@ use Rattle.starts.specs.declared.StartAnswer.the-variants.{Started, Refused as 
 use Rattle.orders.specs.declared.Operation.{Operation}
 use Rattle.orders.specs.declared.Operation.the-variants.{Erase, Program, Look}
 use Rattle.orders.proofs.Laws.{phases, orders-length}
-use Rattle.updater.proofs.Laws.{fits-says, running-says, first-fits, current-order, orders-left}
-use Rattle.effects.proofs.Laws.{Blank, order-within, span-size, Reaches, reached, chip-all, chip-length, chip-blank, current-within, numbers-at, index-at}
+use Rattle.updater.proofs.Laws.{fits-says, running-says, first-fits, index-at, current-order, orders-left}
+use Rattle.effects.proofs.Laws.{Blank, order-within, span-size, Reaches, reached, chip-all, chip-length, chip-blank, current-within, numbers-at}
 use Rattle.base.proofs.Laws.{below-or-not}
 use Rattle.bench.proofs.MixtureLaws.{allows-enough, allows-elsewhere, allows-swap}
 

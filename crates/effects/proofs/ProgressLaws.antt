@@ -24,7 +24,7 @@ use Rattle.updater.specs.declared.run.State.{State}
 use Rattle.orders.specs.declared.Operation.{Operation}
 use Rattle.orders.specs.declared.Operation.the-variants.{Erase, Program, Look}
 use Rattle.orders.proofs.Laws.{phases, area-segments, before-later, orders-length, page-length}
-use Rattle.updater.proofs.Laws.{Numbers, numbers-image, fits-says, running-says, after-index, after-phase, last-or-not, after-fits, after-position, position-running, position-ended, current-order}
+use Rattle.updater.proofs.Laws.{Numbers, numbers-image, fits-says, running-says, after-index, after-phase, last-or-not, after-fits, after-position, position-running, position-ended, current-order, index-at}
 use Rattle.effects.proofs.ReachLaws.{in-reach}
 use Rattle.base.proofs.Laws.{below-or-not}
 
@@ -288,18 +288,11 @@ module _ (state : State) (image : List ℕ) (fit : fits state (length image) ≡
   pub numbers-at : Numbers (state .layout) (length image)
   numbers-at = let f = fits-says state (length image) fit in subst (Numbers (state .layout)) (f .same) (f .numbers)
 
-  -- it is one of the table,
-  pub index-at : running state ≡ true → state .index < count (state .layout) (length image) (state .phase)
-  index-at r = ap-count (running-says state (length image) fit r .1)
-    where
-      ap-count : state .index < count (state .layout) (state .length) (state .phase) → state .index < count (state .layout) (length image) (state .phase)
-      ap-count h = rw (fits-says state (length image) fit .same) at h
-
-  -- lies within the chip,
+  -- it lies within the chip,
   pub current-within : running state ≡ true → placeOf (currentOrder spi state image) + spanOf (currentOrder spi state image) ≤ state .layout .length
   current-within r =
       rw (current-order spi state image fit r)
-      (order-within spi spi-lawful (state .layout) image numbers-at (state .phase) (running-says state (length image) fit r .0) (state .index) (index-at r))
+      (order-within spi spi-lawful (state .layout) image numbers-at (state .phase) (running-says state (length image) fit r .0) (state .index) (index-at state image fit r))
 
   -- and programs a page at most.
   pub current-most : running state ≡ true → length (programmed (currentOrder spi state image)) ≤ page

@@ -7,7 +7,7 @@ use Rattle.orders.specs.Table.{count, before}
 use Rattle.orders.specs.Orders.{Order}
 use Rattle.updater.specs.Run.{position}
 use Rattle.effects.specs.Effects.{placeOf, spanOf, InReach, OnePage}
-use Rattle.updater.specs.Answers.{read}
+use Rattle.orders.specs.Replies.{read}
 use Rattle.effects.proofs.Laws.{in-reach}
 use Rattle.life.specs.OrderList.{Demand2}
 use Rattle.orders.proofs.Laws.{orders-length}

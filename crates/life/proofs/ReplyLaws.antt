@@ -15,11 +15,12 @@ use Rattle.comparison.proofs.Laws.{differs-none, none-same}
 use Rattle.orders.specs.Orders.{Order, erase, program, look}
 use Rattle.updater.specs.Run.{after, ended, running, fits, currentOrder}
 use Rattle.comparison.specs.Comparison.{differs}
-use Rattle.updater.specs.Answers.{done, read, asksFor, stopOf, compared, repliedTo, replyAnswer}
+use Rattle.orders.specs.Replies.{done, read, asksFor}
+use Rattle.updater.specs.Answers.{stopOf, compared, repliedTo, replyAnswer}
 use Rattle.life.specs.OrderList.{Replies, FirstDiffers, Moved, Halted}
 use Rattle.updater.specs.declared.run.State.{State}
 use Rattle.updater.specs.declared.run.ReplyAnswer.the-variants.{Next, Stopped, Refused}
-use Rattle.updater.proofs.Laws.{asked-for}
+use Rattle.orders.proofs.Laws.{asked-for}
 
 -- Where bytes differ, the address is that of the first byte that does.
 pub some-differs : (place : ℕ) (bytes must : List ℕ) (address : ℕ) → differs place bytes must ≡ some address → FirstDiffers place bytes must address

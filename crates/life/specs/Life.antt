@@ -16,7 +16,8 @@ use Rattle.updater.specs.Run.{running, first, ended, currentOrder}
 use Rattle.comparison.specs.Comparison.{differs}
 use Rattle.effects.specs.Effects.{obeyedSpan, leaves, obeyed, Bytes}
 use Rattle.starts.specs.Starts.{startAnswer}
-use Rattle.updater.specs.Answers.{replyAnswer, done, read}
+use Rattle.orders.specs.Replies.{done, read}
+use Rattle.updater.specs.Answers.{replyAnswer}
 use Rattle.updater.specs.declared.run.State.{State}
 use Rattle.starts.specs.declared.StartAnswer.{StartAnswer}
 use Rattle.starts.specs.declared.StartAnswer.the-variants.{Started, Refused as StartRefused}

@@ -10,7 +10,8 @@ use Rattle.orders.specs.Table.{total}
 use Rattle.orders.specs.Orders.{Order, erase, program, look, orders}
 use Rattle.updater.specs.Run.{position, first, after, ended, running, fits, currentOrder}
 use Rattle.effects.specs.Effects.{placeOf, spanOf, InReach, OnePage}
-use Rattle.updater.specs.Answers.{done, read, stopOf, replyAnswer}
+use Rattle.orders.specs.Replies.{done, read}
+use Rattle.updater.specs.Answers.{stopOf, replyAnswer}
 use Rattle.updater.specs.declared.run.State.{State}
 use Rattle.updater.specs.declared.run.ReplyAnswer.the-variants.{Next, Stopped}
 

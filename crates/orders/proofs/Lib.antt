@@ -1,4 +1,5 @@
 pub mod TableLaws
 pub mod OrderLaws
 pub mod CarriedLaws
+pub mod JudgingLaws
 pub mod Laws

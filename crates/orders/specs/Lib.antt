@@ -1,5 +1,7 @@
--- What the contracts of this crate say, in the order to read it: how many orders a phase has, and what they are.
+-- What the contracts of this crate say, in the order to read it: how many orders a phase has, what they are, and the reply that each asks for.
 pub mod Table
 pub mod Orders
+pub mod Replies
 -- What only the contracts of functions that are no public calls cite. No promise rests on it.
 pub mod Carried
+pub mod Judging

@@ -1,6 +1,6 @@
-// The orders of a run, by the table of document 01: how many a phase has, and what each is. An order is an
-// operation on the chip that the run asks for: an erase, a program or a look. For the crates above it alone:
-// its functions ask their caller for an index that the phase has.
+// The orders of a run, by the table of document 01: how many a phase has, what each is, and how a reply to it
+// is judged (`judging`). An order is an operation on the chip that the run asks for: an erase, a program or a
+// look. For the crates above it alone: its functions ask their caller for an index that the phase has.
 ghost use mathlib.Core.Path.{_≡_};
 ghost use Prim.Native.Nat.{ℕ, _+_, _*_, _<_};
 ghost use mathlib.Core.List.{List};
@@ -15,6 +15,8 @@ use base::smaller;
 use chip::kind::Layout;
 use chip::kind::Spi;
 use comparison::filled_page;
+
+pub mod judging;
 
 // What is to be done with the chip: an erase of `length` bytes from `place` on, a program of as many, or
 // a look at as many.

@@ -5,11 +5,9 @@ use mathlib.Core.Bool.{Bool, true, false}
 use mathlib.Core.Option.{Option, some, none}
 use mathlib.Core.List.{List}
 use native.Mathlib.Omega.{arith}
-use borrow.Author.Tests.{eqb-true}
 use lib.Dec.{eqb}
 use lib.ListN.{length}
 use Rattle.base.specs.Question.{ask}
-use Rattle.base.proofs.Laws.{both-true}
 use Rattle.bootreader.specs.Answers.{imageLength}
 use Rattle.bootreader.proofs.Laws.{length-allowed}
 use Rattle.chip.specs.Layout.{page}
@@ -17,16 +15,16 @@ use Rattle.chip.specs.Answers.{layoutAnswer}
 use Rattle.chip.specs.declared.kind.LayoutAnswer.{LayoutAnswer}
 use Rattle.chip.proofs.Laws.{area-allowed, onLayout, by-layout}
 use Rattle.orders.specs.Table.{byPhase, count}
-use Rattle.orders.specs.Orders.{Order, erase, program, look, operationOf, lookedFor}
+use Rattle.orders.specs.Orders.{Order, erase, program, look}
 use Rattle.updater.specs.Run.{after, running, stands, fits}
 use Rattle.comparison.specs.Comparison.{differs, comparison}
-use Rattle.updater.specs.Answers.{done, read, asksFor, stopOf, compared, repliedTo}
-use Rattle.updater.specs.Judging.{judgedDone, judgedLook, judged, onJudged}
-use Rattle.updater.specs.declared.run.Judgement.{Judgement}
-use Rattle.updater.specs.declared.run.Judgement.the-variants.{NotAsked, Agrees}
+use Rattle.orders.specs.Replies.{done, read, asksFor}
+use Rattle.updater.specs.Answers.{stopOf, compared, repliedTo}
+use Rattle.orders.specs.Judging.{judgedDone, judgedLook, judged}
+use Rattle.updater.specs.Judging.{onJudged}
+use Rattle.orders.specs.declared.judging.Judgement.{Judgement}
+use Rattle.orders.specs.declared.judging.Judgement.the-variants.{NotAsked, Agrees}
 use Rattle.updater.specs.declared.run.State.{State}
-use Rattle.orders.specs.declared.Operation.{Operation}
-use Rattle.orders.specs.declared.Operation.the-variants.{Erase, Program, Look}
 use Rattle.updater.specs.declared.run.ReplyAnswer.{ReplyAnswer}
 use Rattle.updater.specs.declared.run.ReplyAnswer.the-variants.{Next, Refused}
 use Rattle.orders.proofs.Laws.{phases}
@@ -75,10 +73,6 @@ places-small state lent e r =
 pub fits-own : (state : State) (lent : ℕ) → fits state lent ≡ true → fits state (state .length) ≡ true
 fits-own state lent e = ap (fits state) (fits-says state lent e .same) ∙ e
 
--- Question 8 with a yes.
-pub asked-for : (what count said lent : ℕ) → asksFor what count said lent ≡ true → (said ≡ what) × (lent ≡ count)
-asked-for what count said lent e = let b = both-true (eqb said what) (eqb lent count) e in (eqb-true said what (b .0), eqb-true lent count (b .1))
-
 -- A reply that was judged is answered as the specification says,
 look-judged : (d : Option ℕ) (state : State) → onJudged (judgedLook (comparison d)) state ≡ compared d state
 unfolding onJudged judgedLook comparison compared
@@ -96,18 +90,3 @@ judged-replies (erase place count) state said bytes = ask-judged (asksFor done 0
 judged-replies (program place contents) state said bytes = ask-judged (asksFor done 0 said (length bytes)) Agrees state (Next (after state)) refl
 judged-replies (look place must) state said bytes =
     ask-judged (asksFor read (length must) said (length bytes)) _ state (compared (differs place bytes must) state) (look-judged (differs place bytes must) state)
-
--- and any reply is judged by the operation that was asked for.
-unfoldable pub onOperation : Operation → List ℕ → ℕ → List ℕ → Judgement
-onOperation (Erase place count) must said bytes = judgedDone said (length bytes)
-onOperation (Program place count) must said bytes = judgedDone said (length bytes)
-onOperation (Look place count) must said bytes = ask (asksFor read count said (length bytes)) NotAsked (judgedLook (comparison (differs place bytes must)))
-
-pub judged-by : (order : Order) (said : ℕ) (bytes : List ℕ) (o : Operation) → operationOf order ≡ o → onOperation o (lookedFor order) said bytes ≡ judged order said bytes
-unfolding onOperation operationOf lookedFor judged
-judged-by order said bytes o e = ap (λ (o : Operation). onOperation o (lookedFor order) said bytes) (sym e) ∙ by-operation order
-  where
-    by-operation : (order : Order) → onOperation (operationOf order) (lookedFor order) said bytes ≡ judged order said bytes
-    by-operation (erase place count) = refl
-    by-operation (program place contents) = refl
-    by-operation (look place must) = refl

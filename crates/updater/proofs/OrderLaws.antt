@@ -14,6 +14,10 @@ use Rattle.updater.specs.Run.{position, running, fits, currentOrder}
 use Rattle.updater.specs.declared.run.State.{State}
 use Rattle.updater.proofs.RunLaws.{fits-says, running-says, position-running, position-ended}
 
+-- A state of a run that goes on has the index of one of its phase's orders.
+pub index-at : (state : State) (image : List ℕ) → fits state (length image) ≡ true → running state ≡ true → state .index < count (state .layout) (length image) (state .phase)
+index-at state image e r = rw (fits-says state (length image) e .same) at (running-says state (length image) e r .1)
+
 -- The order at a state's position is the one that the table has for its phase and index.
 pub current-order : (kind : Kind) (state : State) (image : List ℕ) → fits state (length image) ≡ true → running state ≡ true →
     currentOrder kind state image ≡ orderOf kind (state .layout) image (state .phase) (state .index)
@@ -21,7 +25,7 @@ current-order kind state image e r =
     let s = running-says state (length image) e r in
     let k : suc (state .phase) + (6 - state .phase) ≡ 7 = omega arith in
     let n : state .length ≡ length image = fits-says state (length image) e .same in
-    let h : state .index < count (state .layout) (length image) (state .phase) = rw n at (s .1) in
+    let h = index-at state image e r in
     ap (λ (m : ℕ). getD (orders kind (state .layout) image) (before (state .layout) m (state .phase) + state .index) (erase 0 0)) n
     ∙ (rw k at (order-at kind (state .layout) image (state .phase) (6 - state .phase) (state .index) (erase 0 0) h))
 

@@ -1,9 +1,8 @@
 -- The public calls on a run, each as one definition. Document 01, "Orders of one run" and "Questions at the door".
 use Prim.Native.Nat.{ℕ}
-use mathlib.Core.Bool.{Bool, true, false, _&&_}
+use mathlib.Core.Bool.{Bool, true, false}
 use mathlib.Core.Option.{Option, some, none}
 use mathlib.Core.List.{List}
-use lib.Dec.{eqb}
 use lib.ListN.{length}
 use Rattle.base.specs.Question.{ask}
 use Rattle.chip.specs.Layout.{page}
@@ -11,6 +10,7 @@ use Rattle.flash.specs.Flash.{erased}
 use Rattle.chip.specs.Kind.{Kind}
 use Rattle.orders.specs.Table.{byPhase}
 use Rattle.orders.specs.Orders.{Order, erase, program, look, operationOf, orderBytes}
+use Rattle.orders.specs.Replies.{done, read, asksFor}
 use Rattle.updater.specs.Run.{after, ended, running, fits, currentOrder}
 use Rattle.comparison.specs.Comparison.{differs}
 use Rattle.updater.specs.declared.run.State.{State}
@@ -40,17 +40,6 @@ unfoldable pub orderAnswer : Kind → State → List ℕ → OrderAnswer
 orderAnswer kind state image =
     ask (fits state (length image)) (orderRefused 7)
     (ask (running state) (orderRefused 8) (ordered (currentOrder kind state image)))
-
--- A reply is "done" for an erase or program, and the bytes read for a look: a number and bytes. "Done" has no bytes.
-abbrev pub done : ℕ
-done = 0
-
-abbrev pub read : ℕ
-read = 1
-
--- Question 8: is the reply the kind and length asked for?
-abbrev pub asksFor : ℕ → ℕ → ℕ → ℕ → Bool
-asksFor what bytes said lent = eqb said what && eqb lent bytes
 
 -- The number of a stop: 10 in phase 1, 11 in phase 4, 12 in phase 6. No other phase looks.
 unfoldable pub stopOf : ℕ → ℕ

@@ -4,23 +4,19 @@ ghost use mathlib.Core.Path.{_≡_};
 ghost use mathlib.Core.Bool.{true};
 ghost use lib.ListN.{length};
 ghost use Rattle.chip.specs.Kind.{spi};
-ghost use Rattle.orders.specs.Orders.{operationOf, lookedFor};
-ghost use Rattle.updater.specs.Run.{outcomeAllowed, stands, ended, fits, running, currentOrder};
-ghost use Rattle.updater.specs.Judging.{judgedDone, judgedLook, judged, onJudged};
-ghost use Rattle.comparison.specs.Comparison.{differs, comparison};
-ghost use Rattle.updater.specs.Answers.{finishedCase, finishedAnswer, orderRefused, orderAnswer, asksFor, stopOf, replyAnswer};
-ghost use Rattle.orders.specs.declared.Operation.the-variants.{Look};
+ghost use Rattle.updater.specs.Run.{outcomeAllowed, stands, ended, fits, running};
+ghost use Rattle.updater.specs.Judging.{onJudged};
+ghost use Rattle.updater.specs.Answers.{finishedCase, finishedAnswer, orderRefused, orderAnswer, stopOf, replyAnswer};
 use crate::current::after_order;
 use crate::current::current_bytes;
 use crate::current::current_operation;
 use bootreader::image::length_allowed;
 use chip::kind::Layout;
 use chip::kind::LayoutAnswer;
-use chip::kind::Spi;
-use comparison::Comparison;
-use comparison::compare;
 use orders::Operation;
-use orders::carried_bytes;
+use orders::judging;
+use orders::judging::Judgement;
+use orders::judging::judge;
 use orders::orders_in;
 
 // Where a run is: its layout, the length of its image, phase, index of the order in the phase (0 in
@@ -68,14 +64,6 @@ pub enum ReplyAnswer {
         place: usize,
         state: State,
     },
-}
-
-// How a reply is judged: it is not the one asked for; it moves the run on; or a look read another byte at an
-// address. It holds no state, so that little is carried through the questions.
-enum Judgement {
-    NotAsked,
-    Agrees,
-    Differs { address: usize },
 }
 
 fn outcome_allowed(outcome: u32) -> bool
@@ -144,15 +132,6 @@ fn ended_how(state: State) -> FinishedAnswer
     }
 }
 
-// Compares what a look of the current phase read with what must stand there.
-fn compare_look(state: State, image: &[u8], place: usize, bytes: &[u8]) -> Comparison
-    requires { ⌜ (fits state (length (now image)) ≡ true) × (running state ≡ true) × (operationOf (currentOrder spi state (now image)) ≡ Look place (length (now bytes))) ⌝ }
-    ensures { λ r. ⌜ r ≡ comparison (differs place (now (bytes .entry)) (lookedFor (currentOrder spi state (now (image .entry))))) ⌝ }
-{
-    let on = Spi::ON;
-    compare(place, bytes, carried_bytes(image, state.phase, state.index, &on))
-}
-
 // The number of a stop in a phase.
 fn stop_number(phase: u32) -> u32
     ensures { λ r. ⌜ r ≡ stopOf phase ⌝ }
@@ -162,60 +141,6 @@ fn stop_number(phase: u32) -> u32
         4 => 11,
         6 => 12,
         _ => 0,
-    }
-}
-
-// Question 8: does a reply say what is asked for, with as many bytes?
-fn is_as_asked(what: u32, count: usize, said: u32, lent: usize) -> bool
-    ensures { λ r. ⌜ r ≡ asksFor what count said lent ⌝ }
-{
-    if said != what {
-        return false;
-    }
-    lent == count
-}
-
-// Question 8, for the reply to an erase or program.
-fn judge_done(said: u32, lent: usize) -> Judgement
-    ensures { λ r. ⌜ r ≡ judgedDone said lent ⌝ }
-{
-    if is_as_asked(State::DONE, 0, said, lent) {
-        return Judgement::Agrees;
-    }
-    Judgement::NotAsked
-}
-
-// Question 9, for what comparing a look came to.
-fn judge_look(comparison: Comparison) -> Judgement
-    ensures { λ r. ⌜ r ≡ judgedLook comparison ⌝ }
-{
-    match comparison {
-        Comparison::Same => Judgement::Agrees,
-        Comparison::Differs { address } => Judgement::Differs { address },
-    }
-}
-
-// Questions 8 and 9, for a run that goes on.
-fn judge(state: State, image: &[u8], said: u32, bytes: &[u8]) -> Judgement
-    requires { ⌜ (fits state (length (now image)) ≡ true) × (running state ≡ true) ⌝ }
-    ensures { λ r. ⌜ r ≡ judged (currentOrder spi state (now (image .entry))) said (now (bytes .entry)) ⌝ }
-{
-    let operation = current_operation(state);
-    match operation {
-        Operation::Erase {
-            place: _,
-            length: _,
-        } => judge_done(said, bytes.len()),
-        Operation::Program {
-            place: _,
-            length: _,
-        } => judge_done(said, bytes.len()),
-        Operation::Look { place, length } => {
-            if !is_as_asked(State::READ, length, said, bytes.len()) {
-                return Judgement::NotAsked;
-            }
-            judge_look(compare_look(state, image, place, bytes))
-        }
     }
 }
 
@@ -267,9 +192,9 @@ fn no_order(number: u32) -> OrderAnswer
 
 impl State {
     // What a reply says: an erase or program is done, or the bytes that a look read.
-    pub const DONE: u32 = 0;
+    pub const DONE: u32 = judging::DONE;
 
-    pub const READ: u32 = 1;
+    pub const READ: u32 = judging::READ;
 
     // Whether the run has ended.
     pub fn finished(self) -> FinishedAnswer
@@ -321,6 +246,7 @@ impl State {
                 state: self,
             };
         }
-        reply_judged(self, judge(self, image, said, bytes))
+        let judgement = judge(self.layout, image, self.phase, self.index, said, bytes);
+        reply_judged(self, judgement)
     }
 }

@@ -1,8 +1,8 @@
--- `run::is_as_asked` meets its contract.
+-- `judging::is_as_asked` meets its contract.
 use mathlib.Core.Path.{refl}
 use borrow.Author.Tests.{eq-eqb, ne-eqb}
-use Rattle.updater.proofs.run.is_as_asked.Statement.{statement}
-use Rattle.updater.proofs.run.is_as_asked.Tie as tie
+use Rattle.orders.proofs.judging.is_as_asked.Statement.{statement}
+use Rattle.orders.proofs.judging.is_as_asked.Tie as tie
 
 returns : tie.Need-returns
 returns c = rw (ne-eqb _ _ (c .if1 .taken)) refl

@@ -1,9 +1,9 @@
--- `run::judge_look` meets its contract.
+-- `judging::judge_look` meets its contract.
 use mathlib.Core.Path.{refl}
-use Rattle.updater.specs.Judging.{judgedLook}
+use Rattle.orders.specs.Judging.{judgedLook}
 use borrow.Author.Needs.{needs}
-use Rattle.updater.proofs.run.judge_look.Statement.{statement}
-use Rattle.updater.proofs.run.judge_look.Tie as tie
+use Rattle.orders.proofs.judging.judge_look.Statement.{statement}
+use Rattle.orders.proofs.judging.judge_look.Tie as tie
 
 enum-told : tie.Need-enum-told
 enum-told c = search needs

@@ -1,10 +1,10 @@
--- `run::judge_done` meets its contract.
+-- `judging::judge_done` meets its contract.
 use mathlib.Core.Path.{refl, sym, _∙_}
 use Rattle.base.specs.Question.{ask}
-use Rattle.updater.specs.Judging.{judgedDone}
+use Rattle.orders.specs.Judging.{judgedDone}
 use borrow.Author.Needs.{needs}
-use Rattle.updater.proofs.run.judge_done.Statement.{statement}
-use Rattle.updater.proofs.run.judge_done.Tie as tie
+use Rattle.orders.proofs.judging.judge_done.Statement.{statement}
+use Rattle.orders.proofs.judging.judge_done.Tie as tie
 
 is-as-asked-requires : tie.Need-is-as-asked-requires
 is-as-asked-requires c κs = search needs

@@ -1,0 +1,102 @@
+// How a reply to an order is judged: questions 8 and 9.
+ghost use Prim.Native.Nat.{_+_, _*_, _<_, _≤_};
+ghost use mathlib.Core.Path.{_≡_};
+ghost use lib.ListN.{length};
+ghost use Rattle.chip.specs.Layout.{page};
+ghost use Rattle.chip.specs.Kind.{spi};
+ghost use Rattle.comparison.specs.Comparison.{filled, differs, comparison};
+ghost use Rattle.orders.specs.Table.{count};
+ghost use Rattle.orders.specs.Orders.{orderOf};
+ghost use Rattle.orders.specs.Carried.{carried};
+ghost use Rattle.orders.specs.Replies.{asksFor};
+ghost use Rattle.orders.specs.Judging.{judgedDone, judgedLook, judged};
+use chip::kind::Layout;
+use chip::kind::Spi;
+use comparison::Comparison;
+use comparison::compare;
+use crate::Operation;
+use crate::carried_bytes;
+use crate::operation_at;
+
+// What a reply says: an erase or program is done, or the bytes that a look read.
+pub const DONE: u32 = 0;
+
+pub const READ: u32 = 1;
+
+// How a reply is judged: it is not the one asked for; it moves the run on; or a look read another byte at an
+// address. It holds no state, so that little is carried through the questions.
+pub enum Judgement {
+    NotAsked,
+    Agrees,
+    Differs { address: usize },
+}
+
+// Question 8: does a reply say what is asked for, with as many bytes?
+fn is_as_asked(what: u32, count: usize, said: u32, lent: usize) -> bool
+    ensures { λ r. ⌜ r ≡ asksFor what count said lent ⌝ }
+{
+    if said != what {
+        return false;
+    }
+    lent == count
+}
+
+// Question 8, for the reply to an erase or program.
+fn judge_done(said: u32, lent: usize) -> Judgement
+    ensures { λ r. ⌜ r ≡ judgedDone said lent ⌝ }
+{
+    if is_as_asked(DONE, 0, said, lent) {
+        return Judgement::Agrees;
+    }
+    Judgement::NotAsked
+}
+
+// Question 9, for what comparing a look came to.
+fn judge_look(comparison: Comparison) -> Judgement
+    ensures { λ r. ⌜ r ≡ judgedLook comparison ⌝ }
+{
+    match comparison {
+        Comparison::Same => Judgement::Agrees,
+        Comparison::Differs { address } => Judgement::Differs { address },
+    }
+}
+
+// Compares what a look at a place read with what must stand there.
+fn compare_look(image: &[u8], phase: u32, index: usize, place: usize, bytes: &[u8]) -> Comparison
+    requires { ⌜ (page * index < 16777216) × (place ≤ 16777216) × (length (carried spi (now image) phase index) ≤ length (now bytes)) × (length (now bytes) ≤ page) ⌝ }
+    ensures { λ r. ⌜ r ≡ comparison (differs place (now (bytes .entry)) (filled (length (now (bytes .entry))) (carried spi (now (image .entry)) phase index))) ⌝ }
+{
+    let on = Spi::ON;
+    compare(place, bytes, carried_bytes(image, phase, index, &on))
+}
+
+// Questions 8 and 9, for a reply to an order of a phase.
+pub fn judge(
+    layout: Layout,
+    image: &[u8],
+    phase: u32,
+    index: usize,
+    said: u32,
+    bytes: &[u8],
+) -> Judgement
+    requires { ⌜ (index < count layout (length (now image)) phase) × (layout .update + page * index < 16777216) ⌝ }
+    ensures { λ r. ⌜ r ≡ judged (orderOf spi layout (now (image .entry)) phase index) said (now (bytes .entry)) ⌝ }
+{
+    let operation = operation_at(layout, image.len(), phase, index);
+    match operation {
+        Operation::Erase {
+            place: _,
+            length: _,
+        } => judge_done(said, bytes.len()),
+        Operation::Program {
+            place: _,
+            length: _,
+        } => judge_done(said, bytes.len()),
+        Operation::Look { place, length } => {
+            if !is_as_asked(READ, length, said, bytes.len()) {
+                return Judgement::NotAsked;
+            }
+            judge_look(compare_look(image, phase, index, place, bytes))
+        }
+    }
+}
