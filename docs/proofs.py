@@ -30,8 +30,8 @@ WIDTH = 110
 # library: they may ask something of their caller, and the page has no entry for them.
 INTERNAL = (
     'base', 'framing', 'packets', 'scanner', 'fastpath', 'writes::reading', 'writes::cursor::Cursor::new',
-    'writes::cursor::nth_from', 'configreader', 'digits', 'mcsline', 'comparison', 'updater::orders', 'fields', 'reportlines',
-    'loadlines', 'results')
+    'writes::cursor::nth_from', 'configreader', 'digits', 'mcsline', 'comparison', 'orders', 'updater::current', 'effects',
+    'fields', 'reportlines', 'loadlines', 'results')
 
 # A function's header ends where its body opens, on a line of its own.
 PUBLIC = re.compile(r'^( *)pub (?:extern "C" )?fn (\w+)')
