@@ -1,8 +1,8 @@
 // Reads an image file (MCS text) from standard input and prints what a chip built with its image
-// loads, or why there is no such chip. All of that is `report::text::report`; here it is read and
+// loads, or why there is no such chip. All of that is `filereport::report`; here it is read and
 // written.
+use filereport::report;
 use report::refusal::ReportAnswer;
-use report::text::report;
 
 // One byte more than the longest text that is read, so that a longer one shows.
 fn input() -> [u8; 65537] {

@@ -7,7 +7,6 @@ use Rattle.base.specs.Question.{ask}
 use Rattle.bootreader.specs.Answers.{lengthAllowed}
 use Rattle.reportlines.specs.Lines.{refusedLine}
 use Rattle.report.specs.Chips.{chipReport}
-use Rattle.report.specs.Files.{fileReport}
 use Rattle.report.specs.declared.refusal.ReportAnswer.{ReportAnswer}
 use Rattle.report.specs.declared.refusal.ReportAnswer.the-variants.{Written, Refused}
 
@@ -32,10 +31,3 @@ chipAnswer chip room = ask (lengthAllowed (length chip)) (Refused 1 0) (written 
 
 unfoldable pub chipOutput : List ℕ → List ℕ → List ℕ
 chipOutput chip buffer = ask (lengthAllowed (length chip)) buffer (filledBy (chipReport chip) buffer)
-
--- `text::report`: every text has a report, so only 19
-abbrev pub fileAnswer : List ℕ → ℕ → ReportAnswer
-fileAnswer text room = written (fileReport text) room
-
-abbrev pub fileOutput : List ℕ → List ℕ → List ℕ
-fileOutput text buffer = filledBy (fileReport text) buffer

@@ -1,4 +1,3 @@
--- What the contracts of the public calls say, in the order to read it, after the lines of `reportlines`: the report of a chip, the report of an image file, the calls.
+-- What the contracts of the public calls say, in the order to read it, after the lines of `reportlines`: the report of a chip, and the calls.
 pub mod Chips
-pub mod Files
 pub mod Answers

@@ -1,4 +1,4 @@
--- `text::report` meets its contract.
+-- `filereport::report` meets its contract.
 use Prim.Native.Nat.{ℕ}
 use mathlib.Core.Path.{_≡_, sym, ap, _∙_}
 use mathlib.Core.List.{List}
@@ -6,12 +6,12 @@ use native.Mathlib.Omega.{arith}
 use lib.ListN.{length, take}
 use lib.Seq.{length-take-le}
 use Rattle.mcs.proofs.Laws.{read-says, refused-says}
-use Rattle.report.specs.Files.{builtReport}
+use Rattle.filereport.specs.Files.{builtReport}
 use Rattle.report.specs.Answers.{written, filledBy}
-use Rattle.report.proofs.FileLaws.{reports-long, reports-image, reports-refused}
+use Rattle.filereport.proofs.FileLaws.{reports-long, reports-image, reports-refused}
 use borrow.Author.Needs.{needs}
-use Rattle.report.proofs.text.report.Statement.{statement}
-use Rattle.report.proofs.text.report.Tie as tie
+use Rattle.filereport.proofs.report.Statement.{statement}
+use Rattle.filereport.proofs.report.Tie as tie
 
 report-requires : tie.Need-report-requires
 report-requires c κs = search needs

@@ -11,7 +11,9 @@ use Rattle.chip.specs.declared.kind.Layout.{Layout}
 use Rattle.builder.specs.declared.BuildAnswer.{BuildAnswer}
 use Rattle.builder.specs.declared.BuildAnswer.the-variants.{Built, Refused as NotBuilt}
 use Rattle.reportlines.specs.Lines.{refusedLine}
 use Rattle.report.specs.Chips.{chipReport}
+use Rattle.report.specs.Answers.{written, filledBy}
+use Rattle.report.specs.declared.refusal.ReportAnswer.{ReportAnswer}
 
 -- It builds F 32,768, U 16,384, A 16,384,
 abbrev pub reportLayout : Layout
@@ -32,3 +34,10 @@ onReading (Refused number place) = refusedLine number place
 -- Input above 65,536 bytes prints `REFUSED 19 0`.
 unfoldable pub fileReport : List ℕ → List ℕ
 fileReport text = ask (leb (length text) 65536) (refusedLine 19 0) (onReading (readText text))
+
+-- `filereport::report`: every text has a report, so only 19
+abbrev pub fileAnswer : List ℕ → ℕ → ReportAnswer
+fileAnswer text room = written (fileReport text) room
+
+abbrev pub fileOutput : List ℕ → List ℕ → List ℕ
+fileOutput text buffer = filledBy (fileReport text) buffer

@@ -2,16 +2,16 @@
 // what that chip loads.
 ghost use mathlib.Core.Path.{_≡_};
 ghost use lib.ListN.{length};
-ghost use Rattle.report.specs.Files.{builtReport};
-ghost use Rattle.report.specs.Answers.{written, filledBy, fileAnswer, fileOutput};
-use crate::boot;
-use crate::refusal;
-use crate::refusal::ReportAnswer;
+ghost use Rattle.report.specs.Answers.{written, filledBy};
+ghost use Rattle.filereport.specs.Files.{builtReport, fileAnswer, fileOutput};
 use builder::BuildAnswer;
 use builder::build;
 use chip::kind::Spi;
 use mcs::reader::ReadAnswer;
 use mcs::reader::read;
+use report::boot;
+use report::refusal;
+use report::refusal::ReportAnswer;
 
 // The longest text that is read.
 const LONGEST: usize = 65_536;

@@ -16,9 +16,9 @@ use Rattle.builder.specs.declared.BuildAnswer.the-variants.{Built, Refused as N
 use Rattle.base.proofs.Laws.{asked-yes}
 use Rattle.builder.proofs.Laws.{golden-room, built-length}
 use Rattle.reportlines.specs.Lines.{refusedLine}
 use Rattle.report.specs.Chips.{chipReport}
-use Rattle.report.specs.Files.{reportLayout, onBuilt, builtReport, onReading, fileReport}
+use Rattle.filereport.specs.Files.{reportLayout, onBuilt, builtReport, onReading, fileReport}
 use Rattle.report.specs.Answers.{written, filledBy, chipAnswer, chipOutput}
 
 usual-length : lengthAllowed 32768 ≡ true
 unfolding lengthAllowed ask

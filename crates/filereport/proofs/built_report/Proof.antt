@@ -1,13 +1,13 @@
--- `text::built_report` meets its contract.
+-- `filereport::built_report` meets its contract.
 use mathlib.Core.Path.{sym, ap, _∙_}
 use mathlib.Core.List.{List}
 use Prim.Native.Nat.{ℕ}
 use lib.ListN.{length}
 use Rattle.report.specs.Answers.{written, filledBy, chipAnswer, chipOutput}
-use Rattle.report.proofs.FileLaws.{shows-built, shows-refused}
+use Rattle.filereport.proofs.FileLaws.{shows-built, shows-refused}
 use borrow.Author.Needs.{needs}
-use Rattle.report.proofs.text.built_report.Statement.{statement}
-use Rattle.report.proofs.text.built_report.Tie as tie
+use Rattle.filereport.proofs.built_report.Statement.{statement}
+use Rattle.filereport.proofs.built_report.Tie as tie
 
 buffer-requires : tie.Need-buffer-requires
 buffer-requires c κs = search needs

@@ -1,0 +1,2 @@
+-- What the contract of the public call says: the report of an image file.
+pub mod Files
