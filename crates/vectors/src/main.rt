@@ -28,20 +28,17 @@
 // them. An empty line, and one that begins with # and a space, ask nothing. Every other line prints `?`: one
 // with an unknown word, with more or fewer numbers or fields than its word wants, with something that is no
 // number or no byte, or with a number or bytes that there is no room for.
-mod calls;
-mod packet;
-mod parse;
-mod say;
-mod words;
-
 use base::smaller;
 use bytes::scan::find;
-use parse::Fields;
-use parse::NONE;
-use parse::Numbers;
-use parse::put_fields;
-use parse::read_numbers;
-use parse::read_word;
+use caseanswers as say;
+use caselines::parse::Fields;
+use caselines::parse::NONE;
+use caselines::parse::Numbers;
+use caselines::parse::put_fields;
+use caselines::parse::read_numbers;
+use caselines::parse::read_word;
+use caselines::room;
+use caselines::words;
 
 // How many numbers a word wants.
 fn numbers_wanted(key: u64) -> usize {
@@ -88,14 +85,14 @@ fn fields_fit(key: u64, fields: Fields) -> bool {
 // The call of a word with these numbers and fields.
 fn call(key: u64, n: Numbers, first: &[u8], second: &[u8], third: &[u8]) {
     match key {
-        words::BUILD | words::READ | words::CUT => calls::call_on(key, n, first, second, third),
+        words::BUILD | words::READ | words::CUT => runcases::call_on(key, n, first, second, third),
         words::LAYOUT | words::TOTAL | words::ENDED | words::START | words::ORDER | words::REPLY =>
-            calls::call(key, n, second, third),
+            runcases::call(key, n, second, third),
         words::BOOT | words::SWITCH | words::WRITE | words::LIST => {
-            packet::call_chip(key, n.h, third)
+            chipcases::call_chip(key, n.h, third)
         }
         words::CHECK | words::ITEM | words::ITEMS | words::FIRST => {
-            packet::call_image(key, n.h, third)
+            chipcases::call_image(key, n.h, third)
         }
         _ => say::word(words::WRONG),
     }
@@ -150,11 +147,6 @@ fn run_lines(input: &[u8]) {
         }
         at = end + 1;
     }
-}
-
-// Room for the lines, and for the bytes of one.
-pub(crate) fn room() -> [u8; 131072] {
-    [0; 131072]
 }
 
 fn main() {

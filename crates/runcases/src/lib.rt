@@ -1,12 +1,14 @@
-// The calls on layouts, runs and texts, most of them as the C host calls them: in plain numbers. F, U and
-// A are the numbers f, g and h of a line, a state's seven b to h.
+// The cases of layouts, chips, runs and texts: most are called as the C host calls them, in plain numbers, and
+// each answer is printed. F, U and A are the numbers f, g and h of a line, a state's seven b to h. For the
+// program above it alone: no more is proved here than that each call is safe and ends.
 ghost use Prim.Native.Nat.{_≤_};
 ghost use lib.ListN.{length};
-use crate::parse::Numbers;
-use crate::room;
-use crate::say;
-use crate::words;
 use base::smaller;
+use caseanswers as say;
+use caselines::SPI;
+use caselines::parse::Numbers;
+use caselines::room;
+use caselines::words;
 use chip::kind::LayoutAnswer;
 use chip::kind::Spi;
 use host::build::tealsettle_build;
@@ -17,9 +19,24 @@ use host::run::tealsettle_reply;
 use host::run::tealsettle_start;
 use host::run::tealsettle_total;
 use host::text::tealsettle_mcs_read;
+use results::run::TealsettleState;
 
-// The chip kind's number.
-pub(crate) const SPI: u32 = 0;
+// The state of a run: F, U, A, n, phase, index, outcome.
+fn state(state: TealsettleState) {
+    say::word(words::STATE);
+    say::number(state.length);
+    say::number(state.update);
+    say::number(state.area);
+    say::number(state.image_length);
+    say::number(state.phase as usize);
+    say::number(state.index);
+    say::number(state.outcome as usize);
+}
+
+// The bytes of an order.
+fn page(page: [u8; 256]) {
+    say::bytes(&page);
+}
 
 fn layout(n: Numbers) {
     let answer = Spi::layout(n.f, n.g, n.h).check();
@@ -32,7 +49,7 @@ fn layout(n: Numbers) {
 fn start(n: Numbers, image: &[u8]) {
     let answer = tealsettle_start(SPI, n.f, n.g, n.h, image);
     say::result(words::STARTED, words::REFUSED, answer.number, answer.place);
-    say::state(answer.state);
+    state(answer.state);
 }
 
 fn total(n: Numbers) {
@@ -72,7 +89,7 @@ fn order(n: Numbers, image: &[u8]) {
     say::number(answer.address);
     say::number(answer.length);
     let bytes = answer.bytes;
-    say::page(bytes);
+    page(bytes);
 }
 
 fn reply(n: Numbers, image: &[u8], bytes: &[u8]) {
@@ -91,7 +108,7 @@ fn reply(n: Numbers, image: &[u8], bytes: &[u8]) {
     );
     let not = say::either(answer.stopped, words::REFUSED, words::STOPPED);
     say::result(words::NEXT, not, answer.number, answer.place);
-    say::state(answer.state);
+    state(answer.state);
 }
 
 fn ended(n: Numbers) {
@@ -102,7 +119,7 @@ fn ended(n: Numbers) {
 }
 
 // A call that changes no byte, given the last two fields.
-pub(crate) fn call(key: u64, n: Numbers, second: &[u8], third: &[u8]) {
+pub fn call(key: u64, n: Numbers, second: &[u8], third: &[u8]) {
     match key {
         words::LAYOUT => layout(n),
         words::TOTAL => total(n),
@@ -130,7 +147,7 @@ fn read(text: &[u8], out: &mut [u8]) {
 fn cut(n: Numbers, image: &[u8], damage: &[u8], chip: &mut [u8]) {
     let answer = tealsettle_cut_run(SPI, chip, n.f, n.g, image, n.h, damage);
     say::result(words::REACHED, words::REFUSED, answer.number, answer.place);
-    say::state(answer.state);
+    state(answer.state);
     say::bytes(chip);
 }
 
@@ -152,7 +169,7 @@ fn call_out(key: u64, n: Numbers, first: &[u8], second: &[u8], out: &mut [u8]) {
 }
 
 // A call that may change the bytes of the last field: it is lent a copy of them.
-pub(crate) fn call_on(key: u64, n: Numbers, first: &[u8], second: &[u8], third: &[u8]) {
+pub fn call_on(key: u64, n: Numbers, first: &[u8], second: &[u8], third: &[u8]) {
     let mut space = room();
     let size = copied(third, &mut space);
     call_out(key, n, first, second, &mut space[0..size]);

@@ -4,12 +4,12 @@ ghost use Prim.Native.Nat.{_≤_};
 use std::num::wrapping_add_usize;
 
 // What stands for a place or a length where there is none.
-pub(crate) const NONE: usize = 18_446_744_073_709_551_615;
+pub const NONE: usize = 18_446_744_073_709_551_615;
 
 // A word's letters as one number, and the place after the word and the space behind it.
-pub(crate) struct Word {
-    pub(crate) key: u64,
-    pub(crate) next: usize,
+pub struct Word {
+    pub key: u64,
+    pub next: usize,
 }
 
 // A decimal number, and the place after it and the space behind it.
@@ -20,16 +20,16 @@ struct Number {
 
 // How many numbers a line has, and the last eight of them, h the very last; those that it has not are 0.
 // A count of NONE says that something is no number.
-pub(crate) struct Numbers {
-    pub(crate) count: usize,
-    pub(crate) a: usize,
-    pub(crate) b: usize,
-    pub(crate) c: usize,
-    pub(crate) d: usize,
-    pub(crate) e: usize,
-    pub(crate) f: usize,
-    pub(crate) g: usize,
-    pub(crate) h: usize,
+pub struct Numbers {
+    pub count: usize,
+    pub a: usize,
+    pub b: usize,
+    pub c: usize,
+    pub d: usize,
+    pub e: usize,
+    pub f: usize,
+    pub g: usize,
+    pub h: usize,
 }
 
 // A byte, how often it stands, and the place after it.
@@ -41,16 +41,16 @@ struct Item {
 
 // How many fields a line has; where the last of them begins and ends, and where the one before it begins;
 // and whether a quote is open.
-pub(crate) struct Fields {
-    pub(crate) count: usize,
-    pub(crate) second: usize,
-    pub(crate) third: usize,
-    pub(crate) end: usize,
-    pub(crate) quoted: bool,
+pub struct Fields {
+    pub count: usize,
+    pub second: usize,
+    pub third: usize,
+    pub end: usize,
+    pub quoted: bool,
 }
 
 // The word that begins at `at`. Of more than eight letters the last eight count: no call has as many.
-pub(crate) fn read_word(line: &[u8], at: usize) -> Word {
+pub fn read_word(line: &[u8], at: usize) -> Word {
     let mut key = 0;
     let mut i = at;
     while i < line.len() {
@@ -147,7 +147,7 @@ fn with_number(all: Numbers, value: usize) -> Numbers {
 }
 
 // The numbers from `at` to the end of the line.
-pub(crate) fn read_numbers(line: &[u8], at: usize) -> Numbers {
+pub fn read_numbers(line: &[u8], at: usize) -> Numbers {
     let mut all = no_numbers(0);
     let mut next = at;
     while next < line.len() {
@@ -265,7 +265,7 @@ fn fill(buffer: &mut [u8], at: usize, count: usize, byte: u8) -> usize {
 
 // Puts the bytes that a line spells from `from` on to the front of a buffer. The end is NONE where they
 // are not bytes, or do not fit.
-pub(crate) fn put_fields(line: &[u8], from: usize, buffer: &mut [u8]) -> Fields {
+pub fn put_fields(line: &[u8], from: usize, buffer: &mut [u8]) -> Fields {
     let mut fields = Fields {
         count: 0,
         second: 0,

@@ -1,9 +1,10 @@
-// The calls on a chip's bytes and on an image by itself.
-use crate::calls::SPI;
-use crate::say;
-use crate::words;
+// The cases of what loads: the calls on a chip's bytes and on an image by itself, each with its answer printed.
+// For the program above it alone: no more is proved here than that each call is safe and ends.
 use bootreader::chip as loader;
 use bootreader::image;
+use caseanswers as say;
+use caselines::SPI;
+use caselines::words;
 use chip::switch;
 use chip::switch::SwitchAnswer;
 use host::boot::tealsettle_boot;
@@ -89,7 +90,7 @@ fn listed(bytes: &[u8], listing: Listing) {
 }
 
 // A call on a chip's bytes; i is the index where it is about one write.
-pub(crate) fn call_chip(key: u64, i: usize, chip: &[u8]) {
+pub fn call_chip(key: u64, i: usize, chip: &[u8]) {
     match key {
         words::BOOT => boot(chip),
         words::SWITCH => switched(chip),
@@ -99,7 +100,7 @@ pub(crate) fn call_chip(key: u64, i: usize, chip: &[u8]) {
 }
 
 // A call on an image by itself.
-pub(crate) fn call_image(key: u64, i: usize, bytes: &[u8]) {
+pub fn call_image(key: u64, i: usize, bytes: &[u8]) {
     match key {
         words::CHECK => check(bytes),
         words::ITEM => written(image::write(bytes, i)),

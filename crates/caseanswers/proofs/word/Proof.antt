@@ -1,8 +1,8 @@
--- `say::word` is safe and ends.
+-- `word` is safe and ends.
 use Prim.Native.Nat.{_-_, _≤_}
 use borrow.Author.Needs.{needs}
-use Rattle.vectors.proofs.say.word.Statement.{statement}
-use Rattle.vectors.proofs.say.word.Tie as tie
+use Rattle.caseanswers.proofs.word.Statement.{statement}
+use Rattle.caseanswers.proofs.word.Tie as tie
 
 abbrev Inv-loop : tie.InvT-loop
 Inv-loop word rest₀ i₀ rest i = i ≤ 8

@@ -3,8 +3,8 @@ use Prim.Native.Nat.{_-_, _≤_}
 use mathlib.Core.Path.{_≡_}
 use borrow.Author.Needs.{needs}
 use lib.ListN.{length}
-use Rattle.vectors.proofs.parse.fill.Statement.{statement}
-use Rattle.vectors.proofs.parse.fill.Tie as tie
+use Rattle.caselines.proofs.parse.fill.Statement.{statement}
+use Rattle.caselines.proofs.parse.fill.Tie as tie
 
 abbrev Inv-loop : tie.InvT-loop
 Inv-loop buffer₀ at count byte end i₀ buffer i = (length buffer ≡ length buffer₀) × (i ≤ end)

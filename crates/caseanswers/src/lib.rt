@@ -1,11 +1,11 @@
-// What is printed of an answer: words, numbers and bytes, each with a space before it.
-use crate::words::NOTHING;
-use crate::words::REFUSED;
-use crate::words::STATE;
-use results::run::TealsettleState;
+// What is printed of the answer to a case: words, numbers and bytes, each with a space before it. For the crates
+// above it alone, which are the parts of a test program: of its functions no more is proved than that they are
+// safe and end.
+use caselines::words::NOTHING;
+use caselines::words::REFUSED;
 
 // A word, its letters from the highest byte down.
-pub(crate) fn word(word: u64) {
+pub fn word(word: u64) {
     io::write_all(1, b" ");
     let mut rest = word;
     let mut i: usize = 0;
@@ -19,22 +19,22 @@ pub(crate) fn word(word: u64) {
     }
 }
 
-pub(crate) fn number(value: usize) {
+pub fn number(value: usize) {
     io::write_all(1, b" ");
     io::print_decimal(1, value as u64);
 }
 
 // One of two words, by a flag of the C host.
-pub(crate) fn either(flag: u32, no: u64, yes: u64) -> u64 {
+pub fn either(flag: u32, no: u64, yes: u64) -> u64 {
     if flag == 0 { no } else { yes }
 }
 
-pub(crate) fn refused(number: u32, place: usize) {
+pub fn refused(number: u32, place: usize) {
     result(REFUSED, REFUSED, number, place);
 }
 
 // How a call ended: a word, and where it ended badly the number and the place.
-pub(crate) fn result(good: u64, bad: u64, number: u32, place: usize) {
+pub fn result(good: u64, bad: u64, number: u32, place: usize) {
     if number == 0 {
         return word(good);
     }
@@ -57,7 +57,7 @@ fn byte(b: u8) {
 }
 
 // A word of a packet in hexadecimal.
-pub(crate) fn packet_word(w: u32) {
+pub fn packet_word(w: u32) {
     io::write_all(1, b" ");
     byte((w / 16_777_216) as u8);
     byte((w / 65_536 % 256) as u8);
@@ -80,7 +80,7 @@ fn run(b: u8, count: usize) {
 }
 
 // Every byte of a buffer, those that stand more than once in a row with their number.
-pub(crate) fn bytes(buffer: &[u8]) {
+pub fn bytes(buffer: &[u8]) {
     if buffer.len() == 0 {
         word(NOTHING);
     }
@@ -98,21 +98,4 @@ pub(crate) fn bytes(buffer: &[u8]) {
         i += 1;
     }
     run(last, count);
-}
-
-// The bytes of an order.
-pub(crate) fn page(page: [u8; 256]) {
-    bytes(&page);
-}
-
-// The state of a run: F, U, A, n, phase, index, outcome.
-pub(crate) fn state(state: TealsettleState) {
-    word(STATE);
-    number(state.length);
-    number(state.update);
-    number(state.area);
-    number(state.image_length);
-    number(state.phase as usize);
-    number(state.index);
-    number(state.outcome as usize);
 }

@@ -1,11 +1,11 @@
--- `say::bytes` is safe and ends.
+-- `bytes` is safe and ends.
 use Prim.Native.Nat.{_-_, _≤_}
 use mathlib.Core.Logic.{⊎-elim}
 use native.Mathlib.Omega.{arith}
 use borrow.Author.Needs.{needs}
 use lib.ListN.{length}
-use Rattle.vectors.proofs.say.bytes.Statement.{statement}
-use Rattle.vectors.proofs.say.bytes.Tie as tie
+use Rattle.caseanswers.proofs.bytes.Statement.{statement}
+use Rattle.caseanswers.proofs.bytes.Tie as tie
 
 abbrev Inv-loop : tie.InvT-loop
 Inv-loop buffer last₀ count₀ i₀ last count i = (i ≤ length buffer) × (count ≤ i)

@@ -3,8 +3,8 @@ use Prim.Native.Nat.{_-_}
 use mathlib.Core.Path.{_≡_}
 use borrow.Author.Needs.{needs}
 use lib.ListN.{length}
-use Rattle.vectors.proofs.parse.put_fields.Statement.{statement}
-use Rattle.vectors.proofs.parse.put_fields.Tie as tie
+use Rattle.caselines.proofs.parse.put_fields.Statement.{statement}
+use Rattle.caselines.proofs.parse.put_fields.Tie as tie
 
 abbrev Inv-loop : tie.InvT-loop
 Inv-loop line from buffer₀ fields₀ i₀ buffer fields i = length buffer ≡ length buffer₀

@@ -2,8 +2,8 @@
 use Prim.Native.Nat.{_-_, _≤_}
 use borrow.Author.Needs.{needs}
 use lib.ListN.{length}
-use Rattle.vectors.proofs.parse.read_number.Statement.{statement}
-use Rattle.vectors.proofs.parse.read_number.Tie as tie
+use Rattle.caselines.proofs.parse.read_number.Statement.{statement}
+use Rattle.caselines.proofs.parse.read_number.Tie as tie
 
 abbrev Inv-loop : tie.InvT-loop
 Inv-loop line at value₀ i₀ value i = at ≤ i

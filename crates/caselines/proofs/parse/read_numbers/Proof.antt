@@ -2,8 +2,8 @@
 use Prim.Native.Nat.{_-_}
 use borrow.Author.Needs.{needs}
 use lib.ListN.{length}
-use Rattle.vectors.proofs.parse.read_numbers.Statement.{statement}
-use Rattle.vectors.proofs.parse.read_numbers.Tie as tie
+use Rattle.caselines.proofs.parse.read_numbers.Statement.{statement}
+use Rattle.caselines.proofs.parse.read_numbers.Tie as tie
 
 abbrev Inv-loop : tie.InvT-loop
 Inv-loop line at all₀ next₀ all next = Unit {0}

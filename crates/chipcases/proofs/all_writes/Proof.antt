@@ -1,9 +1,9 @@
--- `packet::all_writes` is safe and ends.
+-- `all_writes` is safe and ends.
 use Prim.Native.Nat.{_+_, _-_, _≤_}
 use borrow.Author.Needs.{needs}
 use lib.ListN.{length}
-use Rattle.vectors.proofs.packet.all_writes.Statement.{statement}
-use Rattle.vectors.proofs.packet.all_writes.Tie as tie
+use Rattle.chipcases.proofs.all_writes.Statement.{statement}
+use Rattle.chipcases.proofs.all_writes.Tie as tie
 
 abbrev Inv-loop : tie.InvT-loop
 Inv-loop bytes here₀ i₀ here i = i ≤ length bytes + 1
