@@ -11,7 +11,7 @@ A generated part stands between two comments, `<!-- WHAT -->` and `<!-- end -->`
     laws                              the laws that each crate offers to those above
     all edits                         every must-fail edit of the repository
 
-Checked: every public function of a library crate has an `ensures`, and every public call an entry and no `requires`; an
+Checked: every public function of a library has an `ensures`, and every public call an entry and no `requires`; an
 entry has two wrong answers and two must-fail edits; every generated part is what it would be now; every
 [`name`](file) names something that the file declares; every edit named in the text exists; and every relative
 link of README.md and docs/*.md leads to a file or to a heading of its page.
@@ -32,6 +32,9 @@ INTERNAL = (
     'base', 'framing', 'packets', 'scanner', 'fastpath', 'writes::reading', 'writes::cursor::Cursor::new',
     'writes::cursor::nth_from', 'configreader', 'digits', 'mcsline', 'comparison', 'orders', 'updater::current', 'effects',
     'fields', 'reportlines', 'loadlines', 'results')
+
+# Parts of the program that runs the cases. No promise rests on them: they print, and are proved to be safe and to end.
+PROGRAM_PARTS = ('caselines', 'caseanswers', 'chipcases', 'runcases')
 
 # A function's header ends where its body opens, on a line of its own.
 PUBLIC = re.compile(r'^( *)pub (?:extern "C" )?fn (\w+)')
@@ -83,7 +86,8 @@ def link(name, path):
 # ---- the source
 
 def library_crates():
-    return sorted(lib.parent.parent for lib in ROOT.glob('crates/*/src/lib.rt'))
+    crates = sorted(lib.parent.parent for lib in ROOT.glob('crates/*/src/lib.rt'))
+    return [crate for crate in crates if crate.name not in PROGRAM_PARTS]
 
 
 def module_of(file):
