@@ -2,7 +2,7 @@
 use crate::words::NOTHING;
 use crate::words::REFUSED;
 use crate::words::STATE;
-use results::run::TealsettleState;
+use runresults::run::TealsettleState;
 
 // A word, its letters from the highest byte down.
 pub(crate) fn word(word: u64) {
