@@ -25,13 +25,14 @@ use Rattle.results.specs.declared.boot.TealsettleBoot.{TealsettleBoot}
 use Rattle.results.specs.declared.boot.TealsettleWrite.{TealsettleWrite}
 use Rattle.results.specs.declared.boot.TealsettleImage.{TealsettleImage}
 use Rattle.results.specs.declared.build.TealsettleBuild.{TealsettleBuild}
-use Rattle.results.specs.declared.run.TealsettleStart.{TealsettleStart}
-use Rattle.results.specs.declared.run.TealsettleTotal.{TealsettleTotal}
-use Rattle.results.specs.declared.run.TealsettleOrder.{TealsettleOrder}
-use Rattle.results.specs.declared.run.TealsettleReply.{TealsettleReply}
-use Rattle.results.specs.declared.run.TealsettleFinished.{TealsettleFinished}
-use Rattle.results.specs.declared.cut.TealsettleBench.{TealsettleBench}
-use Rattle.results.specs.Results.{bootResult, writeResult, imageResult, buildResult, startResult, totalResult, orderNumbers, replyResult, finishedResult, benchResult}
+use Rattle.runresults.specs.declared.run.TealsettleStart.{TealsettleStart}
+use Rattle.runresults.specs.declared.run.TealsettleTotal.{TealsettleTotal}
+use Rattle.runresults.specs.declared.run.TealsettleOrder.{TealsettleOrder}
+use Rattle.runresults.specs.declared.run.TealsettleReply.{TealsettleReply}
+use Rattle.runresults.specs.declared.run.TealsettleFinished.{TealsettleFinished}
+use Rattle.runresults.specs.declared.cut.TealsettleBench.{TealsettleBench}
+use Rattle.results.specs.Results.{bootResult, writeResult, imageResult, buildResult}
+use Rattle.runresults.specs.Results.{startResult, totalResult, orderNumbers, replyResult, finishedResult, benchResult}
 
 -- The kind of chip is asked before everything else. 0 is SPI, and there is no other: 1 at 0, or 7 at 0 where a run's state is given.
 abbrev pub askKind {ℓ} : {A : Type ℓ} → ℕ → A → A → A

@@ -19,13 +19,14 @@ use results::kind::is_spi;
 pub extern "C" fn tealsettle_boot(kind: u32, chip: &[u8]) -> TealsettleBoot
     ensures { λ r. ⌜ r ≡ bootOf kind (now (chip .entry)) ⌝ }
 {
-    if !is_spi(kind) {
-        return boot_result(BootAnswer::Refused {
-            number: 1,
-            place: 0,
-        });
+    let mut answer = BootAnswer::Refused {
+        number: 1,
+        place: 0,
+    };
+    if is_spi(kind) {
+        answer = loader::boot(chip);
     }
-    boot_result(loader::boot(chip))
+    boot_result(answer)
 }
 
 // The i-th write, counted from 0, of what a chip loads.
@@ -33,13 +34,14 @@ pub extern "C" fn tealsettle_boot(kind: u32, chip: &[u8]) -> TealsettleBoot
 pub extern "C" fn tealsettle_write(kind: u32, chip: &[u8], i: usize) -> TealsettleWrite
     ensures { λ r. ⌜ r ≡ writeOf kind (now (chip .entry)) i ⌝ }
 {
-    if !is_spi(kind) {
-        return write_result(WriteAnswer::Refused {
-            number: 1,
-            place: 0,
-        });
+    let mut answer = WriteAnswer::Refused {
+        number: 1,
+        place: 0,
+    };
+    if is_spi(kind) {
+        answer = loader::write(chip, i);
     }
-    write_result(loader::write(chip, i))
+    write_result(answer)
 }
 
 // What an image loads by itself.
@@ -47,11 +49,12 @@ pub extern "C" fn tealsettle_write(kind: u32, chip: &[u8], i: usize) -> Tealsett
 pub extern "C" fn tealsettle_image_check(kind: u32, image: &[u8]) -> TealsettleImage
     ensures { λ r. ⌜ r ≡ imageOf kind (now (image .entry)) ⌝ }
 {
-    if !is_spi(kind) {
-        return image_result(ImageAnswer::Refused {
-            number: 1,
-            place: 0,
-        });
+    let mut answer = ImageAnswer::Refused {
+        number: 1,
+        place: 0,
+    };
+    if is_spi(kind) {
+        answer = image::check(image);
     }
-    image_result(image::check(image))
+    image_result(answer)
 }

@@ -22,11 +22,12 @@ pub extern "C" fn tealsettle_build(
     ensures answer { λ r. ⌜ r ≡ buildOf kind (layoutOf length update area) (now (golden .entry)) (now (out .entry)) ⌝ }
     ensures output { λ r. ⌜ now (out .exit) ≡ buildOutputOf kind (layoutOf length update area) (now (golden .entry)) (now (out .entry)) ⌝ }
 {
-    if !is_spi(kind) {
-        return build_result(BuildAnswer::Refused {
-            number: 1,
-            place: 0,
-        });
+    let mut answer = BuildAnswer::Refused {
+        number: 1,
+        place: 0,
+    };
+    if is_spi(kind) {
+        answer = builder::build(Spi::layout(length, update, area), golden, out);
     }
-    build_result(builder::build(Spi::layout(length, update, area), golden, out))
+    build_result(answer)
 }

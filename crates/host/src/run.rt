@@ -1,30 +1,28 @@
 // A run on a printer's chip, order by order. Its state goes in and comes back as numbers.
 ghost use mathlib.Core.Path.{_≡_};
 ghost use Rattle.chip.specs.Answers.{layoutOf};
-ghost use Rattle.results.specs.Results.{stateOf};
+ghost use Rattle.runresults.specs.Results.{stateOf};
 ghost use Rattle.host.specs.Calls.{startOf, totalOf, orderOf, replyOf, finishedOf};
 use chip::kind::Spi;
 use results::kind::is_spi;
-use results::run::PROGRAM;
-use results::run::TealsettleFinished;
-use results::run::TealsettleOrder;
-use results::run::TealsettleReply;
-use results::run::TealsettleStart;
-use results::run::TealsettleTotal;
-use results::run::finished_result;
-use results::run::order_numbers;
-use results::run::order_result;
-use results::run::reply_result;
-use results::run::start_result;
-use results::run::state_of;
-use results::run::total_result;
+use runresults::run::TealsettleFinished;
+use runresults::run::TealsettleOrder;
+use runresults::run::TealsettleReply;
+use runresults::run::TealsettleStart;
+use runresults::run::TealsettleTotal;
+use runresults::run::finished_result;
+use runresults::run::order_of;
+use runresults::run::refused_order;
+use runresults::run::replied;
+use runresults::run::reply_of;
+use runresults::run::start_result;
+use runresults::run::state_of;
+use runresults::run::total_result;
 use starts::StartAnswer;
 use starts::TotalAnswer;
 use starts::start;
 use starts::total;
-use updater::run::Asked;
 use updater::run::FinishedAnswer;
-use updater::run::ReplyAnswer;
 
 // Starts a run.
 #[no_mangle]
@@ -37,13 +35,14 @@ pub extern "C" fn tealsettle_start(
 ) -> TealsettleStart
     ensures { λ r. ⌜ r ≡ startOf kind (layoutOf length update area) (now (image .entry)) ⌝ }
 {
-    if !is_spi(kind) {
-        return start_result(StartAnswer::Refused {
-            number: 1,
-            place: 0,
-        });
+    let mut answer = StartAnswer::Refused {
+        number: 1,
+        place: 0,
+    };
+    if is_spi(kind) {
+        answer = start(Spi::layout(length, update, area), image);
     }
-    start_result(start(Spi::layout(length, update, area), image))
+    start_result(answer)
 }
 
 // How many orders a run has with an image of so many bytes.
@@ -57,13 +56,14 @@ pub extern "C" fn tealsettle_total(
 ) -> TealsettleTotal
     ensures { λ r. ⌜ r ≡ totalOf kind (layoutOf length update area) n ⌝ }
 {
-    if !is_spi(kind) {
-        return total_result(TotalAnswer::Refused {
-            number: 1,
-            place: 0,
-        });
+    let mut answer = TotalAnswer::Refused {
+        number: 1,
+        place: 0,
+    };
+    if is_spi(kind) {
+        answer = total(Spi::layout(length, update, area), n);
     }
-    total_result(total(Spi::layout(length, update, area), n))
+    total_result(answer)
 }
 
 // The order that a state asks for.
@@ -82,22 +82,12 @@ pub extern "C" fn tealsettle_order(
     ensures { λ r. ⌜ r ≡ orderOf kind (stateOf length update area n phase index outcome) (now (image .entry)) ⌝ }
 {
     if !is_spi(kind) {
-        let refused = Asked::Refused {
-            number: 7,
-            place: 0,
-        };
-        return order_result(order_numbers(refused), [0xFF; 256]);
+        return refused_order(7);
     }
-    let state = state_of(length, update, area, n, phase, index, outcome);
-    let answer = state.order(image);
-    let asked = answer.asked;
-    let numbers = order_numbers(asked);
-    // The bytes beside anything but a program are FF: written where they go, they need no copy.
-    if numbers.operation != PROGRAM {
-        return order_result(numbers, [0xFF; 256]);
-    }
-    let bytes = answer.bytes;
-    order_result(numbers, bytes)
+    order_of(
+        state_of(length, update, area, n, phase, index, outcome),
+        image,
+    )
 }
 
 // The state after a reply to the order of a state.
@@ -119,13 +109,9 @@ pub extern "C" fn tealsettle_reply(
 {
     let state = state_of(length, update, area, n, phase, index, outcome);
     if !is_spi(kind) {
-        return reply_result(ReplyAnswer::Refused {
-            number: 7,
-            place: 0,
-            state,
-        });
+        return replied(7, 0, 0, state);
     }
-    reply_result(state.reply(image, said, bytes))
+    reply_of(state, image, said, bytes)
 }
 
 // Whether a run has ended, and how.
@@ -142,12 +128,13 @@ pub extern "C" fn tealsettle_finished(
 ) -> TealsettleFinished
     ensures { λ r. ⌜ r ≡ finishedOf kind (stateOf length update area n phase index outcome) ⌝ }
 {
-    if !is_spi(kind) {
-        return finished_result(FinishedAnswer::Refused {
-            number: 7,
-            place: 0,
-        });
+    let mut answer = FinishedAnswer::Refused {
+        number: 7,
+        place: 0,
+    };
+    if is_spi(kind) {
+        let state = state_of(length, update, area, n, phase, index, outcome);
+        answer = state.finished();
     }
-    let state = state_of(length, update, area, n, phase, index, outcome);
-    finished_result(state.finished())
+    finished_result(answer)
 }

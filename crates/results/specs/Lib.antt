@@ -1,2 +1,2 @@
--- What a C host gets for each case of the library's answers.
+-- What a C host gets for each case of what a chip, an image, a builder or a reader of text answered.
 pub mod Results

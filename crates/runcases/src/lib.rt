@@ -19,7 +19,7 @@ use host::run::tealsettle_reply;
 use host::run::tealsettle_start;
 use host::run::tealsettle_total;
 use host::text::tealsettle_mcs_read;
-use results::run::TealsettleState;
+use runresults::run::TealsettleState;
 
 // The state of a run: F, U, A, n, phase, index, outcome.
 fn state(state: TealsettleState) {

@@ -1,7 +1,7 @@
 -- `tealsettle_image_check` meets its contract.
 use Rattle.results.specs.Results.{imageResult}
 use Rattle.base.specs.Question.{ask}
-use borrow.Author.Tests.{not-true, not-false}
+use mathlib.Core.Logic.{⊎-elim}
 use mathlib.Core.Path.{sym, ap, _∙_}
 use borrow.Author.Needs.{needs}
 use Rattle.host.proofs.boot.tealsettle_image_check.Statement.{statement}
@@ -10,22 +10,22 @@ use Rattle.host.proofs.boot.tealsettle_image_check.Tie as tie
 is-spi-requires : tie.Need-is-spi-requires
 is-spi-requires c κs = search needs
 
+check-requires : tie.Need-check-requires
+check-requires c κs = search needs
+
 image-result-requires : tie.Need-image-result-requires
 image-result-requires c κs = search needs
 
 returns : tie.Need-returns
 unfolding ask
-returns c = rw (sym (c .before .before .is-spi .ensures) ∙ not-true _ (c .before .if1 .taken)) (c .image-result .ensures)
-
-check-requires : tie.Need-check-requires
-check-requires c κs = search needs
-
-image-result-requires-2 : tie.Need-image-result-requires-2
-image-result-requires-2 c κs = search needs
-
-returns-2 : tie.Need-returns-2
-unfolding ask
-returns-2 c = rw (sym (c .before .before .before .is-spi .ensures) ∙ not-false _ (c .before .before .if1 .left)) (c .image-result2 .ensures ∙ ap imageResult (c .before .check .ensures))
+returns c =
+    let asked = sym (c .before .before .is-spi .ensures) in
+    c .image-result .ensures
+    ∙ ap imageResult
+    (⊎-elim
+    (λ w. rw (asked ∙ w .0 .taken) (w .2 ∙ w .1 .ensures))
+    (λ w. rw (asked ∙ w .0 .left) (w .1))
+    (c .before .if1 .came))
 
 pub tealsettle-image-check-spec : {M : Type 1} → statement M
-tealsettle-image-check-spec = tie.close (tie.spec is-spi-requires image-result-requires returns check-requires image-result-requires-2 returns-2)
+tealsettle-image-check-spec = tie.close (tie.spec is-spi-requires check-requires image-result-requires returns)

@@ -1,9 +1,9 @@
 -- `operation_numbers` meets its contract.
-use Rattle.results.specs.Results.{orderedResult}
+use Rattle.runresults.specs.Results.{orderedResult}
 use mathlib.Core.Path.{refl}
 use borrow.Author.Needs.{needs}
-use Rattle.results.proofs.run.operation_numbers.Statement.{statement}
-use Rattle.results.proofs.run.operation_numbers.Tie as tie
+use Rattle.runresults.proofs.run.operation_numbers.Statement.{statement}
+use Rattle.runresults.proofs.run.operation_numbers.Tie as tie
 
 enum-known-operation : tie.Need-enum-known-operation
 enum-known-operation c = search needs

@@ -1,9 +1,9 @@
 -- `start_result` meets its contract.
-use Rattle.results.specs.Results.{startResult}
+use Rattle.runresults.specs.Results.{startResult}
 use mathlib.Core.Path.{refl}
 use borrow.Author.Needs.{needs}
-use Rattle.results.proofs.run.start_result.Statement.{statement}
-use Rattle.results.proofs.run.start_result.Tie as tie
+use Rattle.runresults.proofs.run.start_result.Statement.{statement}
+use Rattle.runresults.proofs.run.start_result.Tie as tie
 
 enum-known-answer : tie.Need-enum-known-answer
 enum-known-answer c = search needs
@@ -11,19 +11,19 @@ enum-known-answer c = search needs
 state-result-requires : tie.Need-state-result-requires
 state-result-requires c κs = search needs
 
+returns : tie.Need-returns
+unfolding startResult
+returns c = rw (c .before .before .answer .given .1, c .state-result .ensures) refl
+
 enum-known-answer-2 : tie.Need-enum-known-answer-2
 enum-known-answer-2 c = search needs
 
 no-state-requires : tie.Need-no-state-requires
 no-state-requires c κs = search needs
 
-returns : tie.Need-returns
-unfolding startResult
-returns c = rw (c .before .before .answer .given .1, c .state-result .ensures) refl
-
 returns-2 : tie.Need-returns-2
 unfolding startResult
 returns-2 c = rw (c .before .before .answer2 .given .1, c .no-state .ensures) refl
 
 pub start-result-spec : {M : Type 1} → statement M
-start-result-spec = tie.close (tie.spec enum-known-answer state-result-requires enum-known-answer-2 no-state-requires returns returns-2)
+start-result-spec = tie.close (tie.spec enum-known-answer state-result-requires returns enum-known-answer-2 no-state-requires returns-2)

@@ -1,9 +1,9 @@
 -- `total_result` meets its contract.
-use Rattle.results.specs.Results.{totalResult}
+use Rattle.runresults.specs.Results.{totalResult}
 use mathlib.Core.Path.{refl}
 use borrow.Author.Needs.{needs}
-use Rattle.results.proofs.run.total_result.Statement.{statement}
-use Rattle.results.proofs.run.total_result.Tie as tie
+use Rattle.runresults.proofs.run.total_result.Statement.{statement}
+use Rattle.runresults.proofs.run.total_result.Tie as tie
 
 enum-known-answer : tie.Need-enum-known-answer
 enum-known-answer c = search needs

@@ -1,8 +1,8 @@
 -- `state_of` meets its contract.
 use mathlib.Core.Path.{refl}
 use borrow.Author.Needs.{needs}
-use Rattle.results.proofs.run.state_of.Statement.{statement}
-use Rattle.results.proofs.run.state_of.Tie as tie
+use Rattle.runresults.proofs.run.state_of.Statement.{statement}
+use Rattle.runresults.proofs.run.state_of.Tie as tie
 
 layout-requires : tie.Need-layout-requires
 layout-requires c κs = search needs

@@ -1,9 +1,9 @@
 -- `finished_result` meets its contract.
-use Rattle.results.specs.Results.{finishedResult}
+use Rattle.runresults.specs.Results.{finishedResult}
 use mathlib.Core.Path.{refl}
 use borrow.Author.Needs.{needs}
-use Rattle.results.proofs.run.finished_result.Statement.{statement}
-use Rattle.results.proofs.run.finished_result.Tie as tie
+use Rattle.runresults.proofs.run.finished_result.Statement.{statement}
+use Rattle.runresults.proofs.run.finished_result.Tie as tie
 
 enum-told : tie.Need-enum-told
 enum-told c = search needs

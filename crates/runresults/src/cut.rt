@@ -1,6 +1,6 @@
 // What a run that was cut came to, as numbers.
 ghost use mathlib.Core.Path.{_≡_};
-ghost use Rattle.results.specs.Results.{benchResult};
+ghost use Rattle.runresults.specs.Results.{benchResult};
 use crate::run::TealsettleState;
 use crate::run::no_state;
 use crate::run::state_result;
@@ -18,15 +18,19 @@ pub fn bench_result(answer: BenchAnswer) -> TealsettleBench
     ensures { λ r. ⌜ r ≡ benchResult answer ⌝ }
 {
     match answer {
-        BenchAnswer::Reached { state } => TealsettleBench {
-            number: 0,
-            place: 0,
-            state: state_result(state),
-        },
-        BenchAnswer::Refused { number, place } => TealsettleBench {
-            number,
-            place,
-            state: no_state(),
-        },
+        BenchAnswer::Reached { state } => {
+            return TealsettleBench {
+                number: 0,
+                place: 0,
+                state: state_result(state),
+            };
+        }
+        BenchAnswer::Refused { number, place } => {
+            return TealsettleBench {
+                number,
+                place,
+                state: no_state(),
+            };
+        }
     }
 }

@@ -1,9 +1,9 @@
 -- `order_numbers` meets its contract.
-use Rattle.results.specs.Results.{orderResult}
+use Rattle.runresults.specs.Results.{orderResult}
 use mathlib.Core.Path.{refl}
 use borrow.Author.Needs.{needs}
-use Rattle.results.proofs.run.order_numbers.Statement.{statement}
-use Rattle.results.proofs.run.order_numbers.Tie as tie
+use Rattle.runresults.proofs.run.order_numbers.Statement.{statement}
+use Rattle.runresults.proofs.run.order_numbers.Tie as tie
 
 enum-known-asked : tie.Need-enum-known-asked
 enum-known-asked c = search needs

@@ -2,7 +2,9 @@
 ghost use Prim.Native.Nat.{ℕ};
 ghost use mathlib.Core.Path.{_≡_};
 ghost use mathlib.Core.List.{List};
-ghost use Rattle.results.specs.Results.{stateOf, stateResult, noState, startResult, totalResult, orderWith, orderedResult, orderResult, replyResult, finishedResult};
+ghost use Rattle.chip.specs.Kind.{spi};
+ghost use Rattle.updater.specs.Answers.{orderRefused, orderAnswer, replyAnswer};
+ghost use Rattle.runresults.specs.Results.{stateOf, stateResult, noState, startResult, totalResult, orderWith, orderedResult, orderResult, orderNumbers, replied, replyResult, finishedResult};
 use chip::kind::Spi;
 use starts::StartAnswer;
 use starts::TotalAnswer;
@@ -53,15 +55,15 @@ pub struct TealsettleOrder {
 }
 
 // All of an order but its bytes, which are moved as seldom as can be.
-pub struct OrderNumbers {
-    pub number: u32,
-    pub place: usize,
-    pub operation: u32,
-    pub address: usize,
-    pub length: usize,
+struct OrderNumbers {
+    number: u32,
+    place: usize,
+    operation: u32,
+    address: usize,
+    length: usize,
 }
 
-pub const PROGRAM: u32 = 2;
+const PROGRAM: u32 = 2;
 
 // The number and place of a refusal or a stop, and the state handed back.
 #[repr(C)]
@@ -137,16 +139,20 @@ pub fn start_result(answer: StartAnswer) -> TealsettleStart
     ensures { λ r. ⌜ r ≡ startResult answer ⌝ }
 {
     match answer {
-        StartAnswer::Started { state } => TealsettleStart {
-            number: 0,
-            place: 0,
-            state: state_result(state),
-        },
-        StartAnswer::Refused { number, place } => TealsettleStart {
-            number,
-            place,
-            state: no_state(),
-        },
+        StartAnswer::Started { state } => {
+            return TealsettleStart {
+                number: 0,
+                place: 0,
+                state: state_result(state),
+            };
+        }
+        StartAnswer::Refused { number, place } => {
+            return TealsettleStart {
+                number,
+                place,
+                state: no_state(),
+            };
+        }
     }
 }
 
@@ -168,7 +174,7 @@ pub fn total_result(answer: TotalAnswer) -> TealsettleTotal
 }
 
 // The numbers of an order.
-pub fn operation_numbers(operation: Operation) -> OrderNumbers
+fn operation_numbers(operation: Operation) -> OrderNumbers
     ensures { λ r. ⌜ ((bytes : List ℕ) → orderWith r bytes ≡ orderedResult operation bytes) ⌝ }
 {
     match operation {
@@ -197,7 +203,7 @@ pub fn operation_numbers(operation: Operation) -> OrderNumbers
 }
 
 // The numbers of an order or a refusal.
-pub fn order_numbers(asked: Asked) -> OrderNumbers
+fn order_numbers(asked: Asked) -> OrderNumbers
     ensures { λ r. ⌜ ((bytes : List ℕ) → orderWith r bytes ≡ orderResult asked bytes) ⌝ }
 {
     match asked {
@@ -213,7 +219,7 @@ pub fn order_numbers(asked: Asked) -> OrderNumbers
 }
 
 // An order's numbers, and the bytes beside them.
-pub fn order_result(numbers: OrderNumbers, bytes: [u8; 256]) -> TealsettleOrder
+fn order_result(numbers: OrderNumbers, bytes: [u8; 256]) -> TealsettleOrder
     ensures { λ r. ⌜ r ≡ orderWith numbers bytes ⌝ }
 {
     TealsettleOrder {
@@ -226,37 +232,76 @@ pub fn order_result(numbers: OrderNumbers, bytes: [u8; 256]) -> TealsettleOrder
     }
 }
 
-pub fn reply_result(answer: ReplyAnswer) -> TealsettleReply
+// The order that a state asks for.
+pub fn order_of(state: State, image: &[u8]) -> TealsettleOrder
+    ensures { λ r. ⌜ r ≡ orderNumbers (orderAnswer spi state (now (image .entry))) ⌝ }
+{
+    let answer = state.order(image);
+    let asked = answer.asked;
+    let numbers = order_numbers(asked);
+    // The bytes beside anything but a program are FF: written where they go, they need no copy.
+    if numbers.operation != PROGRAM {
+        return order_result(numbers, [0xFF; 256]);
+    }
+    let bytes = answer.bytes;
+    order_result(numbers, bytes)
+}
+
+// An order that is refused with a number.
+pub fn refused_order(number: u32) -> TealsettleOrder
+    ensures { λ r. ⌜ r ≡ orderNumbers (orderRefused number) ⌝ }
+{
+    TealsettleOrder {
+        number,
+        place: 0,
+        operation: 0,
+        address: 0,
+        length: 0,
+        bytes: [0xFF; 256],
+    }
+}
+
+// What a reply came to: number, place, whether the run stopped, and the state handed back.
+pub fn replied(number: u32, place: usize, stopped: u32, state: State) -> TealsettleReply
+    ensures { λ r. ⌜ r ≡ replied number place stopped state ⌝ }
+{
+    TealsettleReply {
+        number,
+        place,
+        stopped,
+        state: state_result(state),
+    }
+}
+
+fn reply_result(answer: ReplyAnswer) -> TealsettleReply
     ensures { λ r. ⌜ r ≡ replyResult answer ⌝ }
 {
     match answer {
-        ReplyAnswer::Next { state } => TealsettleReply {
-            number: 0,
-            place: 0,
-            stopped: 0,
-            state: state_result(state),
-        },
+        ReplyAnswer::Next { state } => {
+            return replied(0, 0, 0, state);
+        }
         ReplyAnswer::Stopped {
             number,
             place,
             state,
-        } => TealsettleReply {
-            number,
-            place,
-            stopped: 1,
-            state: state_result(state),
-        },
+        } => {
+            return replied(number, place, 1, state);
+        }
         ReplyAnswer::Refused {
             number,
             place,
             state,
-        } => TealsettleReply {
-            number,
-            place,
-            stopped: 0,
-            state: state_result(state),
-        },
+        } => {
+            return replied(number, place, 0, state);
+        }
     }
+}
+
+// The state after a reply to the order of a state.
+pub fn reply_of(state: State, image: &[u8], said: u32, bytes: &[u8]) -> TealsettleReply
+    ensures { λ r. ⌜ r ≡ replyResult (replyAnswer spi state (now (image .entry)) said (now (bytes .entry))) ⌝ }
+{
+    reply_result(state.reply(image, said, bytes))
 }
 
 pub fn finished_result(answer: FinishedAnswer) -> TealsettleFinished
