@@ -22,16 +22,16 @@ use Rattle.orders.proofs.OrderLaws.{page-length}
 pub carried-page : (image : List ℕ) (phase i : ℕ) → 3 ≤ phase → phase < 5 → carried spi image phase i ≡ pageOf image i
 unfolding carried byPhase
 carried-page image phase i h k = elim (below-or-not phase 4) [
-      | inl l ↦ (let e : phase ≡ 3 = omega arith in rw e refl)
-      | inr l ↦ (let e : phase ≡ 4 = omega arith in rw e refl)
-    ]
+  | inl l ↦ (let e : phase ≡ 3 = omega arith in rw e refl)
+  | inr l ↦ (let e : phase ≡ 4 = omega arith in rw e refl)
+]
 
 pub carried-on : (image : List ℕ) (phase i : ℕ) → 5 ≤ phase → phase < 7 → carried spi image phase i ≡ spi .on
 unfolding carried byPhase
 carried-on image phase i h k = elim (below-or-not phase 6) [
-      | inl l ↦ (let e : phase ≡ 5 = omega arith in rw e refl)
-      | inr l ↦ (let e : phase ≡ 6 = omega arith in rw e refl)
-    ]
+  | inl l ↦ (let e : phase ≡ 5 = omega arith in rw e refl)
+  | inr l ↦ (let e : phase ≡ 6 = omega arith in rw e refl)
+]
 
 neither : (phase : ℕ) → 3 ≤ phase → phase < 7 → (phase < 3) ⊎ (7 ≤ phase) → ⊥
 neither phase a b (inl h) = omega arith

@@ -10,13 +10,13 @@ ghost use Rattle.orders.specs.Orders.{orderOf};
 ghost use Rattle.orders.specs.Carried.{carried};
 ghost use Rattle.orders.specs.Replies.{asksFor};
 ghost use Rattle.orders.specs.Judging.{judgedDone, judgedLook, judged};
+use crate::Operation;
+use crate::carried_bytes;
+use crate::operation_at;
 use chip::kind::Layout;
 use chip::kind::Spi;
 use comparison::Comparison;
 use comparison::compare;
-use crate::Operation;
-use crate::carried_bytes;
-use crate::operation_at;
 
 // What a reply says: an erase or program is done, or the bytes that a look read.
 pub const DONE: u32 = 0;

@@ -85,7 +85,7 @@ fn fields_fit(key: u64, fields: Fields) -> bool {
 // The call of a word with these numbers and fields.
 fn call(key: u64, n: Numbers, first: &[u8], second: &[u8], third: &[u8]) {
     match key {
-        words::BUILD | words::READ | words::CUT => runcases::call_on(key, n, first, second, third),
+        words::BUILD | words::READ | words::CUT => outputcases::call(key, n, first, second, third),
         words::LAYOUT | words::TOTAL | words::ENDED | words::START | words::ORDER | words::REPLY =>
             runcases::call(key, n, second, third),
         words::BOOT | words::SWITCH | words::WRITE | words::LIST => {
