@@ -31,7 +31,7 @@ WIDTH = 110
 INTERNAL = (
     'base', 'framing', 'packets', 'scanner', 'fastpath', 'writes::reading', 'writes::cursor::Cursor::new',
     'writes::cursor::nth_from', 'configreader', 'digits', 'mcsline', 'comparison', 'orders', 'updater::current', 'effects',
-    'fields', 'reportlines', 'loadlines', 'results')
+    'fields', 'reportlines', 'loadlines', 'results', 'runresults')
 
 # Parts of the program that runs the cases. No promise rests on them: they print, and are proved to be safe and to end.
 PROGRAM_PARTS = ('caselines', 'caseanswers', 'chipcases', 'runcases', 'outputcases')
