@@ -34,7 +34,7 @@ INTERNAL = (
     'fields', 'reportlines', 'loadlines', 'results', 'runresults')
 
 # Parts of the program that runs the cases. No promise rests on them: they print, and are proved to be safe and to end.
-PROGRAM_PARTS = ('caselines', 'caseanswers', 'chipcases', 'runcases', 'outputcases')
+PROGRAM_PARTS = ('caselines', 'caseasks', 'caseanswers', 'chipcases', 'runcases', 'lentcases')
 
 # A function's header ends where its body opens, on a line of its own.
 PUBLIC = re.compile(r'^( *)pub (?:extern "C" )?fn (\w+)')

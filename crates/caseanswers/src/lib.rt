@@ -3,6 +3,7 @@
 // safe and end.
 use caselines::words::NOTHING;
 use caselines::words::REFUSED;
+use caselines::words::STATE;
 
 // A word, its letters from the highest byte down.
 pub fn word(word: u64) {
@@ -98,4 +99,29 @@ pub fn bytes(buffer: &[u8]) {
         i += 1;
     }
     run(last, count);
+}
+
+// The bytes of an order.
+pub fn page(page: [u8; 256]) {
+    bytes(&page);
+}
+
+// The state of a run: F, U, A, n, phase, index, outcome.
+pub fn state(
+    length: usize,
+    update: usize,
+    area: usize,
+    image: usize,
+    phase: u32,
+    index: usize,
+    outcome: u32,
+) {
+    word(STATE);
+    number(length);
+    number(update);
+    number(area);
+    number(image);
+    number(phase as usize);
+    number(index);
+    number(outcome as usize);
 }

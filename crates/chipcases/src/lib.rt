@@ -3,6 +3,8 @@
 use bootreader::chip as loader;
 use bootreader::image;
 use caseanswers as say;
+use caseasks::Case;
+use caseasks::field;
 use caselines::SPI;
 use caselines::words;
 use chip::switch;
@@ -89,21 +91,25 @@ fn listed(bytes: &[u8], listing: Listing) {
     }
 }
 
-// A call on a chip's bytes; i is the index where it is about one write.
-pub fn call_chip(key: u64, i: usize, chip: &[u8]) {
+// A call on a chip's bytes. The number h of a line is the index where it is about one write.
+pub fn call_chip(case: Case, given: &[u8]) {
+    let key = case.key;
+    let chip = field(given, case.third, case.end);
     match key {
         words::BOOT => boot(chip),
         words::SWITCH => switched(chip),
-        words::WRITE => written(loader::write(chip, i)),
+        words::WRITE => written(loader::write(chip, case.n.h)),
         _ => listed(chip, loader::writes(chip)),
     }
 }
 
 // A call on an image by itself.
-pub fn call_image(key: u64, i: usize, bytes: &[u8]) {
+pub fn call_image(case: Case, given: &[u8]) {
+    let key = case.key;
+    let bytes = field(given, case.third, case.end);
     match key {
         words::CHECK => check(bytes),
-        words::ITEM => written(image::write(bytes, i)),
+        words::ITEM => written(image::write(bytes, case.n.h)),
         words::ITEMS => listed(bytes, image::writes(bytes)),
         _ => written(first_write(bytes)),
     }

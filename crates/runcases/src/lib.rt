@@ -1,7 +1,9 @@
-// The cases of layouts and runs: most are called as the C host calls them, in plain numbers, and each answer is
-// printed. F, U and A are the numbers f, g and h of a line, a state's seven b to h. For the
-// program above it alone: no more is proved here than that each call is safe and ends.
+// The cases of layouts and runs, most of them called as the C host calls them, in plain numbers: each call's
+// answer is printed. F, U and A are the numbers f, g and h of a line, a state's seven b to h. For the program
+// above it alone: no more is proved here than that each call is safe and ends.
 use caseanswers as say;
+use caseasks::Case;
+use caseasks::field;
 use caselines::SPI;
 use caselines::parse::Numbers;
 use caselines::words;
@@ -12,24 +14,6 @@ use host::run::tealsettle_order;
 use host::run::tealsettle_reply;
 use host::run::tealsettle_start;
 use host::run::tealsettle_total;
-use runresults::run::TealsettleState;
-
-// The state of a run: F, U, A, n, phase, index, outcome.
-pub fn state(state: TealsettleState) {
-    say::word(words::STATE);
-    say::number(state.length);
-    say::number(state.update);
-    say::number(state.area);
-    say::number(state.image_length);
-    say::number(state.phase as usize);
-    say::number(state.index);
-    say::number(state.outcome as usize);
-}
-
-// The bytes of an order.
-fn page(page: [u8; 256]) {
-    say::bytes(&page);
-}
 
 fn layout(n: Numbers) {
     let answer = Spi::layout(n.f, n.g, n.h).check();
@@ -42,7 +26,15 @@ fn layout(n: Numbers) {
 fn start(n: Numbers, image: &[u8]) {
     let answer = tealsettle_start(SPI, n.f, n.g, n.h, image);
     say::result(words::STARTED, words::REFUSED, answer.number, answer.place);
-    state(answer.state);
+    say::state(
+        answer.state.length,
+        answer.state.update,
+        answer.state.area,
+        answer.state.image_length,
+        answer.state.phase,
+        answer.state.index,
+        answer.state.outcome,
+    );
 }
 
 fn total(n: Numbers) {
@@ -82,7 +74,7 @@ fn order(n: Numbers, image: &[u8]) {
     say::number(answer.address);
     say::number(answer.length);
     let bytes = answer.bytes;
-    page(bytes);
+    say::page(bytes);
 }
 
 fn reply(n: Numbers, image: &[u8], bytes: &[u8]) {
@@ -101,7 +93,15 @@ fn reply(n: Numbers, image: &[u8], bytes: &[u8]) {
     );
     let not = say::either(answer.stopped, words::REFUSED, words::STOPPED);
     say::result(words::NEXT, not, answer.number, answer.place);
-    state(answer.state);
+    say::state(
+        answer.state.length,
+        answer.state.update,
+        answer.state.area,
+        answer.state.image_length,
+        answer.state.phase,
+        answer.state.index,
+        answer.state.outcome,
+    );
 }
 
 fn ended(n: Numbers) {
@@ -111,14 +111,16 @@ fn ended(n: Numbers) {
     say::number(answer.outcome as usize);
 }
 
-// A call that changes no byte, given the last two fields.
-pub fn call(key: u64, n: Numbers, second: &[u8], third: &[u8]) {
+// A call that changes no byte.
+pub fn call(case: Case, given: &[u8]) {
+    let key = case.key;
+    let last = field(given, case.third, case.end);
     match key {
-        words::LAYOUT => layout(n),
-        words::TOTAL => total(n),
-        words::ENDED => ended(n),
-        words::START => start(n, third),
-        words::ORDER => order(n, third),
-        _ => reply(n, second, third),
+        words::LAYOUT => layout(case.n),
+        words::TOTAL => total(case.n),
+        words::ENDED => ended(case.n),
+        words::START => start(case.n, last),
+        words::ORDER => order(case.n, last),
+        _ => reply(case.n, field(given, case.second, case.third), last),
     }
 }

@@ -28,110 +28,41 @@
 // them. An empty line, and one that begins with # and a space, ask nothing. Every other line prints `?`: one
 // with an unknown word, with more or fewer numbers or fields than its word wants, with something that is no
 // number or no byte, or with a number or bytes that there is no room for.
-use base::smaller;
 use bytes::scan::find;
 use caseanswers as say;
-use caselines::parse::Fields;
-use caselines::parse::NONE;
-use caselines::parse::Numbers;
-use caselines::parse::put_fields;
-use caselines::parse::read_numbers;
-use caselines::parse::read_word;
+use caseasks::Case;
+use caseasks::read_case;
 use caselines::room;
 use caselines::words;
 
-// How many numbers a word wants.
-fn numbers_wanted(key: u64) -> usize {
+// The call of a case, with the bytes of its fields.
+fn call(case: Case, given: &[u8]) {
+    let key = case.key;
     match key {
-        words::WRITE | words::ITEM => 1,
-        words::LAYOUT | words::BUILD | words::START | words::CUT => 3,
-        words::TOTAL => 4,
-        words::ORDER | words::ENDED => 7,
-        words::REPLY => 8,
-        _ => 0,
-    }
-}
-
-// How many fields it wants.
-fn fields_wanted(key: u64) -> usize {
-    match key {
-        words::LAYOUT | words::TOTAL | words::ENDED => 0,
-        words::BUILD | words::REPLY | words::READ => 2,
-        words::CUT => 3,
-        _ => 1,
-    }
-}
-
-// Whether a line has the numbers that its word wants. The kind of reply, the phase and the outcome have 32
-// bits.
-fn numbers_fit(key: u64, n: Numbers) -> bool {
-    if n.count != numbers_wanted(key) {
-        return false;
-    }
-    if n.count < 7 {
-        return true;
-    }
-    (n.a | n.f | n.h) < 4_294_967_296
-}
-
-// Whether it has the fields.
-fn fields_fit(key: u64, fields: Fields) -> bool {
-    if fields.end == NONE {
-        return false;
-    }
-    fields.count == fields_wanted(key) && !fields.quoted
-}
-
-// The call of a word with these numbers and fields.
-fn call(key: u64, n: Numbers, first: &[u8], second: &[u8], third: &[u8]) {
-    match key {
-        words::BUILD | words::READ | words::CUT => outputcases::call(key, n, first, second, third),
+        words::BUILD | words::READ | words::CUT => lentcases::call(case, given),
         words::LAYOUT | words::TOTAL | words::ENDED | words::START | words::ORDER | words::REPLY =>
-            runcases::call(key, n, second, third),
-        words::BOOT | words::SWITCH | words::WRITE | words::LIST => {
-            chipcases::call_chip(key, n.h, third)
-        }
-        words::CHECK | words::ITEM | words::ITEMS | words::FIRST => {
-            chipcases::call_image(key, n.h, third)
-        }
+            runcases::call(case, given),
+        words::BOOT | words::SWITCH | words::WRITE | words::LIST => chipcases::call_chip(
+            case,
+            given,
+        ),
+        words::CHECK | words::ITEM | words::ITEMS | words::FIRST => chipcases::call_image(
+            case,
+            given,
+        ),
         _ => say::word(words::WRONG),
     }
 }
 
-// The same, with the fields still together.
-fn call_fields(key: u64, n: Numbers, given: &[u8], fields: Fields) {
-    let end = smaller(fields.end, given.len());
-    let third = smaller(fields.third, end);
-    let second = smaller(fields.second, third);
-    call(
-        key,
-        n,
-        &given[0..second],
-        &given[second..third],
-        &given[third..end],
-    );
-}
-
-// The answer to a line that asks something, with its fields from a slash on.
-fn answer(key: u64, n: Numbers, line: &[u8], slash: usize) {
-    let mut given = room();
-    say::word(words::EQUALS);
-    let fields = put_fields(line, slash, &mut given);
-    if !(numbers_fit(key, n) & fields_fit(key, fields)) {
-        return say::word(words::WRONG);
-    }
-    call_fields(key, n, &given, fields);
-}
-
+// Prints the answer to a line, where it asks something.
 fn run_line(line: &[u8]) {
-    let word = read_word(line, 0);
-    let key = word.key;
-    if line.len() == 0 || key == words::COMMENT {
+    let mut given = room();
+    let case = read_case(line, &mut given);
+    if case.key == words::COMMENT {
         return;
     }
-    let slash = find(line, 0, line.len(), b'/');
-    let n = read_numbers(&line[0..slash], word.next);
-    answer(key, n, line, slash);
+    say::word(words::EQUALS);
+    call(case, &given);
 }
 
 fn run_lines(input: &[u8]) {
