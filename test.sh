@@ -8,6 +8,8 @@ cd "$(dirname "$0")"
 
 # Three at a time: the crates of a level, and the edits of a batch, end at different times, and a core would wait.
 export RT_JOBS=${RT_JOBS:-3}
+# The prover makes and removes thousands of small files for each crate: in memory that costs no disk's bookkeeping.
+if [ -z "${TMPDIR:-}" ] && [ -d /dev/shm ] && [ -w /dev/shm ]; then export TMPDIR=/dev/shm; fi
 
 log=$(mktemp)
 trap 'rm -f "$log"' EXIT
