@@ -1,5 +1,5 @@
 // A run: its state, and the replies that move it on. Run, order, reply and stop are document 01's terms. The run
-// asks for an order (`orders`), the host carries it out and replies; a stop is a look that read something else.
+// asks for an order (crate `orders`), the host carries it out and replies; a stop is a look that read something else.
 ghost use mathlib.Core.Path.{_≡_};
 ghost use mathlib.Core.Bool.{true};
 ghost use lib.ListN.{length};

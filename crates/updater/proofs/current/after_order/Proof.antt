@@ -1,4 +1,4 @@
--- `run::after_order` meets its contract.
+-- `current::after_order` meets its contract.
 use mathlib.Core.Path.{sym}
 use native.Mathlib.Omega.{arith}
 use Rattle.updater.proofs.RunLaws.{running-says, after-index, after-phase}
