@@ -5,8 +5,11 @@ use mathlib.Core.Bool.{Bool, true, false, _&&_}
 use mathlib.Core.Logic.{_⊎_, inl, inr}
 use native.Mathlib.Omega.{arith}
 use borrow.Author.Tests.{ltb-true, ltb-false, leb-true, leb-false, le-leb, lt-leb}
+use mathlib.Core.List.{List, _++_}
 use lib.Dec.{ltb, leb}
+use lib.ListN.{length, drop}
 use Rattle.base.specs.Question.{ask}
+use Rattle.base.specs.Output.{frontFilled}
 
 pub false-true : false ≡ true → ⊥
 false-true e = let z : _≡_ {A = ℕ} 0 1 = cc in omega arith
@@ -45,3 +48,8 @@ fits-after length place count h = go (leb count (length - place)) refl
     go : (b : Bool) → leb count (length - place) ≡ b → b ≡ leb (place + count) length
     go true e = let l = leb-true count (length - place) e in sym (le-leb (place + count) length (omega arith))
     go false e = let l = leb-false count (length - place) e in sym (lt-leb (place + count) length (omega arith))
+
+-- Output that fits is at the front, with the old bytes after it.
+pub front-fits : (output buffer : List ℕ) → length output ≤ length buffer → frontFilled output buffer ≡ output ++ drop (length output) buffer
+unfolding frontFilled ask
+front-fits output buffer fits = rw (le-leb (length output) (length buffer) fits) refl

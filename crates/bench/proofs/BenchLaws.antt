@@ -8,28 +8,22 @@ use native.Mathlib.Omega.{arith}
 use lib.ListN.{length, take, drop, length-take, drop-of-length-le}
 use lib.Seq.{ext-getD}
 use Rattle.base.specs.Question.{ask}
-use Rattle.bootreader.specs.Answers.{lengthAllowed, imageLength, aloneCase}
-use Rattle.configreader.specs.declared.Outcome.{Outcome}
-use Rattle.configreader.specs.declared.Outcome.the-variants.{Loaded, Iprog, Stuck}
-use Rattle.bootreader.proofs.Laws.{length-allowed}
-use Rattle.chip.specs.Layout.{page, segment, switchAt, updateAllowed, areaAllowed, askLayout}
-use Rattle.flash.specs.Flash.{erased, span, within, cleared, afterProgram}
-use Rattle.chip.specs.Kind.{Kind, spi, spiOn}
-use Rattle.chip.specs.declared.kind.Layout.{Layout}
-use Rattle.chip.proofs.Laws.{update-allowed, spi-lawful}
-use Rattle.flash.proofs.Laws.{span-at, span-length, within-over, erased-length, erased-at}
-use Rattle.orders.specs.Table.{byPhase, count, before, total}
+use Rattle.kind.specs.Layout.{chipLengthAllowed, imageLengthAllowed, page, segment, switchAt, updatePlaceAllowed, updateLengthAllowed, askLayout}
+use Rattle.bootreader.specs.Image.{aloneCase}
+use Rattle.bench.specs.Types.{Outcome, Loaded, OutcomeIprog, Stuck, Layout, State, StartAnswer, Started, StartRefused, Operation, Erase, Program, Look}
+use Rattle.kind.proofs.Laws.{chip-length-range, update-place-range}
+use Rattle.flash.specs.Flash.{erased, span, overwriteInRange, cleared, afterProgram}
+use Rattle.kind.specs.Kind.{Kind}
+use Rattle.kind.specs.Spi.{spi, spiOn}
+use Rattle.chip.proofs.Laws.{spi-lawful}
+use Rattle.flash.proofs.Laws.{span-at, span-length, in-range, erased-length, erased-at}
+use Rattle.orders.specs.Table.{byPhase, count, countBefore, total}
 use Rattle.orders.specs.Orders.{Order, erase, program, look, pageOf, orderOf, orders, operationOf}
-use Rattle.updater.specs.Run.{position, first, running, fits, currentOrder}
-use Rattle.effects.specs.Effects.{placeOf, obeyedSpan, leaves, obeyedAll, spanOf}
+use Rattle.updater.specs.State.{position, first, running, fits, currentOrder}
+use Rattle.effects.specs.Effects.{orderPlace, obeyedSpan, leaves, obeyedAll, orderLength}
 use Rattle.starts.specs.Starts.{askRun, startAnswer}
 use Rattle.effects.specs.Progress.{chipAfter, stateAfter, stateAt}
 use Rattle.bench.specs.Bench.{spanAllows, damageAllowed, cutAllowed, cutIn}
-use Rattle.updater.specs.declared.run.State.{State}
-use Rattle.starts.specs.declared.StartAnswer.{StartAnswer}
-use Rattle.starts.specs.declared.StartAnswer.the-variants.{Started, Refused as StartRefused}
-use Rattle.orders.specs.declared.Operation.{Operation}
-use Rattle.orders.specs.declared.Operation.the-variants.{Erase, Program, Look}
 use Rattle.orders.proofs.Laws.{phases, orders-length}
 use Rattle.updater.proofs.Laws.{fits-says, running-says, first-fits, index-at, current-order, orders-left}
 use Rattle.effects.proofs.Laws.{Blank, order-within, span-size, Reaches, reached, chip-all, chip-length, chip-blank, current-within, numbers-at}
@@ -42,18 +36,18 @@ asksOf (Erase place count) chip damage = spanAllows place (span chip place count
 asksOf (Program place count) chip damage = spanAllows place spiOn (erased count) damage
 asksOf (Look place count) chip damage = true
 
-module _ (layout : Layout) (image chip damage : List ℕ) (fit : fits (first layout (length image)) (length image) ≡ true) (long : layout .length ≡ length chip) where
+module _ (layout : Layout) (image chip damage : List ℕ) (fit : fits (first layout (length image)) (length image) ≡ true) (long : layout .«chip_length» ≡ length chip) where
   -- the chip before order i of a phase
   abbrev chipAt : ℕ → ℕ → List ℕ
-  chipAt phase i = chipAfter spi layout image (before layout (length image) phase + i) chip
+  chipAt phase i = chipAfter spi layout image (countBefore layout (length image) phase + i) chip
 
   -- Before the program of the switch word its four bytes are FF, and it then leaves ON.
   switch-blank : (i : ℕ) → i < count layout (length image) 5 → span (chipAt 5 i) switchAt 4 ≡ erased 4
-  unfolding before count byPhase
+  unfolding countBefore count byPhase
   switch-blank i h =
       let n = fits-says (first layout (length image)) (length image) fit .numbers in
-      let l = length-allowed (layout .length) (n .long) in
-      let m : ℕ = before layout (length image) 5 + i in
+      let l = chip-length-range (layout .«chip_length») (n .long) in
+      let m : ℕ = countBefore layout (length image) 5 + i in
       let q : suc (m - 1) ≡ m = omega arith in
       let b : Blank (chipAt 5 i) = rw q at (chip-blank spi spi-lawful layout image chip fit long (m - 1) (omega arith)) in
       let e : length (chipAt 5 i) ≡ length chip = chip-length spi spi-lawful layout image chip fit long m (omega arith) in
@@ -66,21 +60,21 @@ module _ (layout : Layout) (image chip damage : List ℕ) (fit : fits (first lay
   program-leaves i h = ap (λ (l : List ℕ). cleared l spiOn) (switch-blank i h)
 
   asked-of : (phase : ℕ) → phase < 7 → (i : ℕ) → i < count layout (length image) phase → damageAllowed (orderOf spi layout image phase i) (chipAt phase i) damage ≡ asksOf (operationOf (orderOf spi layout image phase i)) chip damage
-  unfolding orderOf byPhase count before damageAllowed placeOf spanOf obeyedSpan asksOf operationOf obeyedAll
+  unfolding orderOf byPhase count countBefore damageAllowed orderPlace orderLength obeyedSpan asksOf operationOf obeyedAll
   asked-of =
       let n = fits-says (first layout (length image)) (length image) fit .numbers in
-      let u = update-allowed (layout .length) (layout .update) (n .starts) in
+      let u = update-place-range (layout .«chip_length») (layout .«update_place») (n .starts) in
       phases (λ (phase : ℕ). (i : ℕ) → i < count layout (length image) phase → damageAllowed (orderOf spi layout image phase i) (chipAt phase i) damage ≡ asksOf (operationOf (orderOf spi layout image phase i)) chip damage)
       (λ i h.
       let z : 0 + i ≡ 0 = omega arith in
       ap₂ (λ (k n : ℕ). spanAllows 0 (span (chipAfter spi layout image k chip) 0 n) (erased segment) damage) z (erased-length segment))
       (λ i h. refl)
-      (λ i h. allows-elsewhere (layout .update + segment * i) _ (erased segment) _ (erased segment) damage (omega arith) refl)
+      (λ i h. allows-elsewhere (layout .«update_place» + segment * i) _ (erased segment) _ (erased segment) damage (omega arith) refl)
       (λ i h.
-      let place = layout .update + page * i in
+      let place = layout .«update_place» + page * i in
       let w = order-within spi spi-lawful layout image n 3 (omega arith) i h in
-      let b : before layout (length image) 3 + i ≤ total layout (length image) = omega arith in
-      let l = chip-length spi spi-lawful layout image chip fit long (before layout (length image) 3 + i) b in
+      let b : countBefore layout (length image) 3 + i ≤ total layout (length image) = omega arith in
+      let l = chip-length spi spi-lawful layout image chip fit long (countBefore layout (length image) 3 + i) b in
       let size : length (afterProgram (chipAt 3 i) place (pageOf image i)) ≡ length (pageOf image i) = span-size (program place (pageOf image i)) (chipAt 3 i) (omega (arith, long)) in
       allows-elsewhere place _ (afterProgram (chipAt 3 i) place (pageOf image i)) _ (erased (length (pageOf image i))) damage (omega arith) (size ∙ sym (erased-length (length (pageOf image i)))))
       (λ i h. refl)
@@ -92,19 +86,19 @@ module _ (layout : Layout) (image chip damage : List ℕ) (fit : fits (first lay
 
 -- What it leaves when the order is cut,
 unfoldable pub leftBy : Operation → List ℕ → List ℕ → List ℕ
-leftBy (Erase place count) damage chip = within chip place (length (take count damage)) (take count damage)
-leftBy (Program place count) damage chip = within chip place (length (take count damage)) (take count damage)
+leftBy (Erase place count) damage chip = overwriteInRange chip place (length (take count damage)) (take count damage)
+leftBy (Program place count) damage chip = overwriteInRange chip place (length (take count damage)) (take count damage)
 leftBy (Look place count) damage chip = chip
 
 -- is the damage in the order's span;
-pub cut-left : (o : Order) (chip damage : List ℕ) → placeOf o + spanOf o ≤ length chip → leaves o chip (take (length (obeyedSpan o chip)) damage) ≡ leftBy (operationOf o) damage chip
-unfolding placeOf spanOf obeyedSpan leaves operationOf leftBy
+pub cut-left : (o : Order) (chip damage : List ℕ) → orderPlace o + orderLength o ≤ length chip → leaves o chip (take (length (obeyedSpan o chip)) damage) ≡ leftBy (operationOf o) damage chip
+unfolding orderPlace orderLength obeyedSpan leaves operationOf leftBy
 cut-left (erase place count) chip damage h =
     let t = length-take count damage in
-    rw (span-size (erase place count) chip h) (sym (within-over chip place (length (take count damage)) (take count damage) (omega arith)))
+    rw (span-size (erase place count) chip h) (sym (in-range chip place (length (take count damage)) (take count damage) (omega arith)))
 cut-left (program place bytes) chip damage h =
     let t = length-take (length bytes) damage in
-    rw (span-size (program place bytes) chip h) (sym (within-over chip place (length (take (length bytes) damage)) (take (length bytes) damage) (omega arith)))
+    rw (span-size (program place bytes) chip h) (sym (in-range chip place (length (take (length bytes) damage)) (take (length bytes) damage) (omega arith)))
 cut-left (look place bytes) chip damage h = refl
 
 -- of that there is enough.
@@ -113,8 +107,8 @@ Enough (Erase place count) damage = count ≤ length damage
 Enough (Program place count) damage = count ≤ length damage
 Enough (Look place count) damage = Unit {0}
 
-pub damage-enough : (o : Order) (chip damage : List ℕ) → placeOf o + spanOf o ≤ length chip → damageAllowed o chip damage ≡ true → Enough (operationOf o) damage
-unfolding placeOf spanOf obeyedSpan operationOf damageAllowed Enough
+pub damage-enough : (o : Order) (chip damage : List ℕ) → orderPlace o + orderLength o ≤ length chip → damageAllowed o chip damage ≡ true → Enough (operationOf o) damage
+unfolding orderPlace orderLength obeyedSpan operationOf damageAllowed Enough
 damage-enough (erase place count) chip damage h e = let n = span-size (erase place count) chip h in let l = allows-enough _ _ _ _ e in omega arith
 damage-enough (program place bytes) chip damage h e = let n = span-size (program place bytes) chip h in let l = allows-enough _ _ _ _ e in omega arith
 damage-enough (look place bytes) chip damage h e = tt
@@ -125,10 +119,10 @@ LowIsOn (Erase place count) = Unit {0}
 LowIsOn (Program place count) = place < segment → length spiOn ≡ count
 LowIsOn (Look place count) = Unit {0}
 
-low-is-on : (layout : Layout) (image : List ℕ) → updateAllowed (layout .length) (layout .update) ≡ true → (phase : ℕ) → phase < 7 → (i : ℕ) → LowIsOn (operationOf (orderOf spi layout image phase i))
+low-is-on : (layout : Layout) (image : List ℕ) → updatePlaceAllowed (layout .«chip_length») (layout .«update_place») ≡ true → (phase : ℕ) → phase < 7 → (i : ℕ) → LowIsOn (operationOf (orderOf spi layout image phase i))
 unfolding orderOf byPhase operationOf LowIsOn
 low-is-on layout image starts =
-    let u = update-allowed (layout .length) (layout .update) starts in
+    let u = update-place-range (layout .«chip_length») (layout .«update_place») starts in
     phases (λ (phase : ℕ). (i : ℕ) → LowIsOn (operationOf (orderOf spi layout image phase i)))
     (λ i. tt)
     (λ i. tt)
@@ -146,19 +140,19 @@ module _ (state : State) (image : List ℕ) (fit : fits state (length image) ≡
       (low-is-on (state .layout) image (numbers-at state image fit .starts) (state .phase) (running-says state (length image) fit r .0) (state .index))
 
   -- Question 10 asks of it,
-  pub current-asked : running state ≡ true → (chip damage : List ℕ) → state .layout .length ≡ length chip →
+  pub current-asked : running state ≡ true → (chip damage : List ℕ) → state .layout .«chip_length» ≡ length chip →
       cutAllowed (drop (position state) (orders spi (state .layout) image)) (chipAfter spi (state .layout) image (position state) chip) damage ≡ asksOf (operationOf (currentOrder spi state image)) chip damage
   unfolding cutAllowed
   current-asked r chip damage long =
       let n = fits-says state (length image) fit .same in
       let o = current-order spi state image fit r in
       ap (λ (l : List Order). cutAllowed l (chipAfter spi (state .layout) image (position state) chip) damage) (orders-left spi state image fit r)
-      ∙ ap₂ (λ (x : Order) (k : ℕ). damageAllowed x (chipAfter spi (state .layout) image (before (state .layout) k (state .phase) + state .index) chip) damage) o n
+      ∙ ap₂ (λ (x : Order) (k : ℕ). damageAllowed x (chipAfter spi (state .layout) image (countBefore (state .layout) k (state .phase) + state .index) chip) damage) o n
       ∙ asked-of (state .layout) image chip damage (first-fits (state .layout) (length image) (numbers-at state image fit)) long (state .phase) (running-says state (length image) fit r .0) (state .index) (index-at state image fit r)
       ∙ ap (λ (x : Order). asksOf (operationOf x) chip damage) (sym o)
 
   -- The code leaves the damage where it is cut.
-  pub current-left : running state ≡ true → (chip damage : List ℕ) → state .layout .length ≡ length chip → (operation : Operation) → operationOf (currentOrder spi state image) ≡ operation →
+  pub current-left : running state ≡ true → (chip damage : List ℕ) → state .layout .«chip_length» ≡ length chip → (operation : Operation) → operationOf (currentOrder spi state image) ≡ operation →
       leftBy operation damage chip ≡ cutIn (drop (position state) (orders spi (state .layout) image)) chip damage
   unfolding cutIn
   current-left r chip damage long operation e =
@@ -168,7 +162,7 @@ module _ (state : State) (image : List ℕ) (fit : fits state (length image) ≡
       ∙ cut-left (currentOrder spi state image) chip damage (omega (arith, long))
       ∙ ap (λ (o : Operation). leftBy o damage chip) e)
 
-  pub current-enough : running state ≡ true → (chip damage : List ℕ) → state .layout .length ≡ length chip → cutAllowed (drop (position state) (orders spi (state .layout) image)) chip damage ≡ true →
+  pub current-enough : running state ≡ true → (chip damage : List ℕ) → state .layout .«chip_length» ≡ length chip → cutAllowed (drop (position state) (orders spi (state .layout) image)) chip damage ≡ true →
       (operation : Operation) → operationOf (currentOrder spi state image) ≡ operation → Enough operation damage
   unfolding cutAllowed
   current-enough r chip damage long yes-said operation e =
@@ -183,10 +177,10 @@ pub record CutAt (begun : State) (image : List ℕ) (cut : ℕ) (state : State) 
   pub same : state .layout ≡ begun .layout
   pub left : drop (position state) (orders spi (state .layout) image) ≡ drop cut (orders spi (begun .layout) image)
   pub chip : (chip : List ℕ) → chipAfter spi (state .layout) image (position state) chip ≡ chipAfter spi (begun .layout) image cut chip
-  pub long : (chip : List ℕ) → begun .layout .length ≡ length chip → length (chipAfter spi (begun .layout) image cut chip) ≡ length chip
+  pub long : (chip : List ℕ) → begun .layout .«chip_length» ≡ length chip → length (chipAfter spi (begun .layout) image cut chip) ≡ length chip
 
 pub cut-at : (begun : State) (image : List ℕ) (cut : ℕ) (state : State) → begun ≡ first (begun .layout) (length image) → fits begun (length image) ≡ true →
-    state ≡ stateAfter (min cut (total (begun .layout) (begun .length))) begun → CutAt begun image cut state
+    state ≡ stateAfter (min cut (total (begun .layout) (begun .«image_length»))) begun → CutAt begun image cut state
 cut-at begun image cut state opens fit comes = record {
   is = reaches .is;
   fit = reaches .fit;
@@ -228,11 +222,11 @@ onStart refused rest (StartRefused number place) = refused number place
 pub by-start {ℓ} : {A : Type ℓ} (kind : Kind) (refused : ℕ → ℕ → A) (rest : A) (layout : Layout) (image : List ℕ) → onStart refused rest (startAnswer kind layout image) ≡ askRun kind refused layout image rest
 unfolding startAnswer askRun askLayout ask aloneCase onStart
 by-start kind refused rest layout image =
-    go (lengthAllowed (layout .length)) (updateAllowed (layout .length) (layout .update)) (areaAllowed (layout .length) (layout .update) (layout .area)) (imageLength (layout .area) (length image)) (kind .alone image)
+    go (chipLengthAllowed (layout .«chip_length»)) (updatePlaceAllowed (layout .«chip_length») (layout .«update_place»)) (updateLengthAllowed (layout .«chip_length») (layout .«update_place») (layout .«update_length»)) (imageLengthAllowed (layout .«update_length») (length image)) (kind .alone image)
   where
     read : (o : Outcome) → onStart refused rest (aloneCase StartRefused (λ sync end writes. Started (first layout (length image))) o) ≡ aloneCase refused (λ sync end writes. rest) o
     read (Loaded sync end writes jumped) = refl
-    read (Iprog place) = refl
+    read (OutcomeIprog place) = refl
     read (Stuck place) = refl
 
     go : (a b c d : Bool) (o : Outcome) →

@@ -13,8 +13,8 @@ use lib.ListN.{length, getD, take, drop}
 use lib.Seq.{length-take-le, getD-take, drop-cons}
 use Rattle.base.specs.Question.{ask}
 use Rattle.base.proofs.Laws.{asked, both-true, false-true, below-or-not}
-use Rattle.chip.specs.Layout.{segment}
-use Rattle.flash.specs.Flash.{span, bit, Mixed}
+use Rattle.kind.specs.Layout.{segment}
+use Rattle.flash.specs.Flash.{span, bit, BitwiseMix}
 use Rattle.chip.specs.Cut.{MayLeave}
 use Rattle.flash.proofs.Laws.{span-length, same-bits, bit-most, bit-and}
 use Rattle.effects.specs.Effects.{Bytes}
@@ -104,7 +104,7 @@ zero-bit : (n : ℕ) → bit n 0 ≡ 0
 zero-bit n = ap (λ (q : ℕ). q % 2) (zero-div (2 ^ n))
 
 -- Bytes that question 10 allows are those that a life allows a cut order to leave in segment 0,
-pub mixture-mixed : (old ordered new : List ℕ) → length old ≡ length new → length ordered ≡ length new → mixture old ordered new ≡ true → Mixed old ordered new
+pub mixture-mixed : (old ordered new : List ℕ) → length old ≡ length new → length ordered ≡ length new → mixture old ordered new ≡ true → BitwiseMix old ordered new
 mixture-mixed old ordered new p q e i h n m =
     let none : bitAnd (bitXor (getD new i 0) (getD old i 0)) (bitXor (getD new i 0) (getD ordered i 0)) ≡ 0 = eqb-true _ _ (mixture-bytes old ordered new p q e i h) in
     equal-one (bit n (getD new i 0)) (bit n (getD old i 0)) (bit n (getD ordered i 0)) (bit-most n (getD new i 0)) (bit-most n (getD old i 0)) (bit-most n (getD ordered i 0))
@@ -112,7 +112,7 @@ mixture-mixed old ordered new p q e i h n m =
 
 -- and those only.
 pub mixed-mixture : (old ordered new : List ℕ) → length old ≡ length new → length ordered ≡ length new →
-    ((i : ℕ) → i < length new → (getD old i 0 < 256) × (getD ordered i 0 < 256) × (getD new i 0 < 256)) → Mixed old ordered new → mixture old ordered new ≡ true
+    ((i : ℕ) → i < length new → (getD old i 0 < 256) × (getD ordered i 0 < 256) × (getD new i 0 < 256)) → BitwiseMix old ordered new → mixture old ordered new ≡ true
 mixed-mixture old ordered new p q bytes mixed = bytes-mixture old ordered new p q (λ i h. eq-eqb _ _ (none i h))
   where
     none : (i : ℕ) → i < length new → bitAnd (bitXor (getD new i 0) (getD old i 0)) (bitXor (getD new i 0) (getD ordered i 0)) ≡ 0

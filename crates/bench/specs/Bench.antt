@@ -1,22 +1,20 @@
--- The bench: a run on a chip's bytes, cut after k orders. Document 01, "Orders of one run" and question 10.
+-- The bench (document 01's term): a run on a chip's bytes, cut after k orders. Document 01, "Orders of one run" and question 10.
 use Prim.Native.Nat.{ℕ}
 use mathlib.Core.Bool.{Bool, true, false, _&&_}
 use mathlib.Core.List.{List, [], _∷_}
 use lib.Bits.{bitAnd, bitXor}
 use lib.Dec.{eqb, leb, ltb}
 use lib.ListN.{length, take, drop}
+use Rattle.base.specs.Refusal.{badDamage}
 use Rattle.base.specs.Question.{ask}
-use Rattle.chip.specs.Layout.{segment}
+use Rattle.kind.specs.Layout.{segment, layoutOf}
 use Rattle.flash.specs.Flash.{span}
-use Rattle.chip.specs.Kind.{Kind}
-use Rattle.chip.specs.Answers.{layoutOf}
-use Rattle.chip.specs.declared.kind.Layout.{Layout}
+use Rattle.kind.specs.Kind.{Kind}
+use Rattle.bench.specs.Types.{Layout, BenchAnswer, Reached, BenchRefused}
 use Rattle.orders.specs.Orders.{Order, erase, program, look, orders}
-use Rattle.effects.specs.Effects.{placeOf, obeyedSpan, leaves}
+use Rattle.effects.specs.Effects.{orderPlace, obeyedSpan, leaves}
 use Rattle.effects.specs.Progress.{chipAfter, stateAt}
 use Rattle.starts.specs.Starts.{askRun}
-use Rattle.bench.specs.declared.BenchAnswer.{BenchAnswer}
-use Rattle.bench.specs.declared.BenchAnswer.the-variants.{Reached, Refused}
 
 -- Each bit equals the old one or the ordered one: no bit of the new bytes differs from both.
 unfoldable pub mixture : List ℕ → List ℕ → List ℕ → Bool
@@ -33,7 +31,7 @@ spanAllows place old ordered damage =
 
 -- The same of an order and the chip before it. A look has no damage.
 abbrev pub damages : Order → List ℕ → List ℕ → Bool
-damages order chip damage = spanAllows (placeOf order) (span chip (placeOf order) (length (obeyedSpan order chip))) (obeyedSpan order chip) damage
+damages order chip damage = spanAllows (orderPlace order) (span chip (orderPlace order) (length (obeyedSpan order chip))) (obeyedSpan order chip) damage
 
 unfoldable pub damageAllowed : Order → List ℕ → List ℕ → Bool
 damageAllowed (erase place count) chip damage = damages (erase place count) chip damage
@@ -49,17 +47,17 @@ unfoldable pub cutIn : List Order → List ℕ → List ℕ → List ℕ
 cutIn [] chip damage = chip
 cutIn (order ∷ more) chip damage = leaves order chip (take (length (obeyedSpan order chip)) damage)
 
--- `bench::cut_run`: questions 1 to 5, then 10; the run's state before order k + 1, and the chip as it then stands. F is the length of the chip's bytes.
+-- `bench::cut_run`: questions 1 to 5, then 10; the run's state before order k + 1, and the chip as it then is. F is the length of the chip's bytes.
 unfoldable pub benchAnswer : Kind → Layout → List ℕ → List ℕ → ℕ → List ℕ → BenchAnswer
 benchAnswer kind layout chip image k damage =
-    askRun kind Refused layout image
-    (ask (cutAllowed (drop k (orders kind layout image)) (chipAfter kind layout image k chip) damage) (Refused 13 0)
+    askRun kind BenchRefused layout image
+    (ask (cutAllowed (drop k (orders kind layout image)) (chipAfter kind layout image k chip) damage) (BenchRefused badDamage 0)
     (Reached (stateAt layout image k)))
 
 -- A refusal leaves the chip as it was.
 unfoldable pub benchOutput : BenchAnswer → Kind → Layout → List ℕ → List ℕ → ℕ → List ℕ → List ℕ
 benchOutput (Reached state) kind layout chip image k damage = cutIn (drop k (orders kind layout image)) (chipAfter kind layout image k chip) damage
-benchOutput (Refused number place) kind layout chip image k damage = chip
+benchOutput (BenchRefused number place) kind layout chip image k damage = chip
 
 abbrev pub benchLayout : List ℕ → ℕ → ℕ → Layout
-benchLayout chip update area = layoutOf (length chip) update area
+benchLayout chip updatePlace updateLength = layoutOf (length chip) updatePlace updateLength

@@ -1,2 +1,3 @@
 -- What the contract of the bench says: a run that is cut.
+pub mod Types
 pub mod Bench

@@ -5,23 +5,25 @@ ghost use mathlib.Core.Path.{_≡_};
 ghost use mathlib.Core.Bool.{true};
 ghost use lib.ListN.{length, drop};
 ghost use Rattle.base.specs.Question.{ask};
-ghost use Rattle.chip.specs.Layout.{segment};
+ghost use Rattle.base.specs.Refusal.{badDamage};
+ghost use Rattle.kind.specs.Layout.{segment};
 ghost use Rattle.flash.specs.Flash.{erased};
-ghost use Rattle.chip.specs.Kind.{spi};
+ghost use Rattle.kind.specs.Spi.{spi};
 ghost use Rattle.orders.specs.Orders.{orders};
-ghost use Rattle.updater.specs.Run.{position, first, fits};
+ghost use Rattle.updater.specs.State.{position, first, fits};
 ghost use Rattle.effects.specs.Progress.{chipAfter, stateAt};
 ghost use Rattle.bench.specs.Bench.{mixture, spanAllows, cutAllowed, cutIn, benchAnswer, benchOutput, benchLayout};
-ghost use Rattle.bench.specs.declared.BenchAnswer.the-variants.{Reached, Refused};
-use chip::kind::Spi;
+ghost use Rattle.bench.specs.Types.{Reached, BenchRefused};
+use base::refusal;
 use effects::obey_orders;
 use effects::state_after;
-use flash::write;
+use flash::overwrite;
+use kind::spi::Spi;
 use orders::Operation;
 use starts::StartAnswer;
 use starts::start;
-use updater::current::current_operation;
-use updater::run::State;
+use updater::state::State;
+use updater::state::current_operation;
 
 // The run's state before the cut order, or at its end; or a refusal that left the chip as it was.
 pub enum BenchAnswer {
@@ -62,7 +64,7 @@ fn span_allowed(place: usize, count: usize, others: &[u8], damage: &[u8]) -> boo
 // Question 10 for the current order, before anything is written: the chip is the one before the run.
 // Only the erase of segment 0 finds it as it was.
 fn damage_allowed(chip: &[u8], state: State, image: &[u8], damage: &[u8]) -> bool
-    requires { ⌜ (fits state (length (now image)) ≡ true) × (state .layout .length ≡ length (now chip)) ⌝ }
+    requires { ⌜ (fits state (length (now image)) ≡ true) × (state .layout .«chip_length» ≡ length (now chip)) ⌝ }
     ensures { λ r. ⌜ r ≡ cutAllowed (drop (position state) (orders spi (state .layout) (now (image .entry)))) (chipAfter spi (state .layout) (now (image .entry)) (position state) (now (chip .entry))) (now (damage .entry)) ⌝ }
 {
     if state.phase >= 7 {
@@ -87,7 +89,7 @@ fn damage_allowed(chip: &[u8], state: State, image: &[u8], damage: &[u8]) -> boo
 
 // What the cut order leaves.
 fn write_damage(chip: &mut [u8], state: State, image: &[u8], damage: &[u8])
-    requires { ⌜ (fits state (length (now image)) ≡ true) × (state .layout .length ≡ length (now chip)) × (cutAllowed (drop (position state) (orders spi (state .layout) (now image))) (now chip) (now damage) ≡ true) ⌝ }
+    requires { ⌜ (fits state (length (now image)) ≡ true) × (state .layout .«chip_length» ≡ length (now chip)) × (cutAllowed (drop (position state) (orders spi (state .layout) (now image))) (now chip) (now damage) ≡ true) ⌝ }
     ensures { λ r. ⌜ now (chip .exit) ≡ cutIn (drop (position state) (orders spi (state .layout) (now (image .entry)))) (now (chip .entry)) (now (damage .entry)) ⌝ }
 {
     if state.phase >= 7 {
@@ -96,10 +98,10 @@ fn write_damage(chip: &mut [u8], state: State, image: &[u8], damage: &[u8])
     let operation = current_operation(state);
     match operation {
         Operation::Erase { place, length } => {
-            write(chip, place, &damage[..length]);
+            overwrite(chip, place, &damage[..length]);
         }
         Operation::Program { place, length } => {
-            write(chip, place, &damage[..length]);
+            overwrite(chip, place, &damage[..length]);
         }
         Operation::Look {
             place: _,
@@ -110,14 +112,14 @@ fn write_damage(chip: &mut [u8], state: State, image: &[u8], damage: &[u8])
 
 // Question 10, and the cut, for a run that is started.
 fn cut_begun(chip: &mut [u8], begun: State, image: &[u8], cut: usize, damage: &[u8]) -> BenchAnswer
-    requires { ⌜ (begun ≡ first (begun .layout) (length (now image))) × (fits begun (length (now image)) ≡ true) × (begun .layout .length ≡ length (now chip)) ⌝ }
-    ensures answer { λ r. ⌜ r ≡ ask (cutAllowed (drop cut (orders spi (begun .layout) (now (image .entry)))) (chipAfter spi (begun .layout) (now (image .entry)) cut (now (chip .entry))) (now (damage .entry))) (Refused 13 0) (Reached (stateAt (begun .layout) (now (image .entry)) cut)) ⌝ }
+    requires { ⌜ (begun ≡ first (begun .layout) (length (now image))) × (fits begun (length (now image)) ≡ true) × (begun .layout .«chip_length» ≡ length (now chip)) ⌝ }
+    ensures answer { λ r. ⌜ r ≡ ask (cutAllowed (drop cut (orders spi (begun .layout) (now (image .entry)))) (chipAfter spi (begun .layout) (now (image .entry)) cut (now (chip .entry))) (now (damage .entry))) (BenchRefused badDamage 0) (Reached (stateAt (begun .layout) (now (image .entry)) cut)) ⌝ }
     ensures output { λ r. ⌜ now (chip .exit) ≡ benchOutput r spi (begun .layout) (now (chip .entry)) (now (image .entry)) cut (now (damage .entry)) ⌝ }
 {
     let reached = state_after(begun, cut);
     if !damage_allowed(chip, reached, image, damage) {
         return BenchAnswer::Refused {
-            number: 13,
+            number: refusal::BAD_DAMAGE,
             place: 0,
         };
     }
@@ -127,7 +129,8 @@ fn cut_begun(chip: &mut [u8], begun: State, image: &[u8], cut: usize, damage: &[
 }
 
 // Runs an update on a chip and cuts the power in the order after so many: those are obeyed in full, and
-// the first damage bytes stand in the span of the next. A cut at or above the total lets the run end.
+// the first damage bytes stand in the span of the next. A cut at or above the total lets the run end. Refusals 1 to 6
+// and 13 leave the chip as it was.
 pub fn cut_run(
     chip: &mut [u8],
     update: usize,

@@ -1,2 +1,4 @@
--- What the contracts of the public calls say.
-pub mod Answers
+-- What the contracts of the public calls say: on an image by itself, and on a chip.
+pub mod Types
+pub mod Image
+pub mod Boot

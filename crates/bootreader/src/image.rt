@@ -1,9 +1,13 @@
 // An image read by itself. Its calls ask question 4 of its length, then whether it reads alone to
 // Loaded: with no jump to give, an IPROG is refused with 6, every other fault with 5.
 ghost use mathlib.Core.Path.{_≡_};
-ghost use Rattle.bootreader.specs.Answers.{imageLength, aloneCase, imageWithin, imageAnswer, imageWrite, imageListing};
+ghost use Rattle.kind.specs.Spi.{spi};
+ghost use Rattle.bootreader.specs.Image.{aloneCase, imageWithin, imageAnswer, imageWrite, imageListing};
+use base::refusal;
 use configreader::Outcome;
 use configreader::read_alone;
+use kind::layout::image_length_allowed;
+use kind::spi::Spi;
 use packets::trace::WriteAnswer;
 use writes::cursor::Cursor;
 use writes::cursor::Listing;
@@ -22,16 +26,6 @@ pub enum ImageAnswer {
     },
 }
 
-// Question 4: has the image 1 byte to its area's length?
-pub fn length_allowed(longest: usize, length: usize) -> bool
-    ensures { λ r. ⌜ r ≡ imageLength longest length ⌝ }
-{
-    if length == 0 {
-        return false;
-    }
-    length <= longest
-}
-
 // The refusal number of a reading that is not Loaded.
 fn number_of(outcome: Outcome) -> u32
     ensures { λ r. ⌜ r ≡ aloneCase (λ number place. number) (λ sync end writes. 0) outcome ⌝ }
@@ -43,8 +37,8 @@ fn number_of(outcome: Outcome) -> u32
             writes: _,
             jumped: _,
         } => 0,
-        Outcome::Iprog { place: _ } => 6,
-        Outcome::Stuck { place: _ } => 5,
+        Outcome::Iprog { place: _ } => refusal::IMAGE_JUMPS,
+        Outcome::Stuck { place: _ } => refusal::IMAGE_FAULT,
     }
 }
 
@@ -64,13 +58,13 @@ fn place_of(outcome: Outcome) -> usize
     }
 }
 
-// The image check for an area of so many bytes: what the image loads by itself, or 4, 5 or 6.
+// What an image loads by itself, for an area of `longest` bytes: sync, end, writes; or refusal 4, 5 or 6.
 pub fn check_within(image: &[u8], longest: usize) -> ImageAnswer
-    ensures { λ r. ⌜ r ≡ imageWithin longest (now (image .entry)) ⌝ }
+    ensures { λ r. ⌜ r ≡ imageWithin spi longest (now (image .entry)) ⌝ }
 {
-    if !length_allowed(longest, image.len()) {
+    if !image_length_allowed(longest, image.len()) {
         return ImageAnswer::Refused {
-            number: 4,
+            number: refusal::BAD_IMAGE_LENGTH,
             place: 0,
         };
     }
@@ -90,16 +84,16 @@ pub fn check_within(image: &[u8], longest: usize) -> ImageAnswer
     ImageAnswer::Accepted { sync, end, writes }
 }
 
-// The check of an image by itself, with no area that it must fit into.
+// What an image loads by itself, with no area that it must fit into: sync, end, writes; or refusal 4, 5 or 6.
 pub fn check(image: &[u8]) -> ImageAnswer
-    ensures { λ r. ⌜ r ≡ imageAnswer (now (image .entry)) ⌝ }
+    ensures { λ r. ⌜ r ≡ imageAnswer spi (now (image .entry)) ⌝ }
 {
-    check_within(image, 16_777_216)
+    check_within(image, Spi::LONGEST)
 }
 
-// The i-th write, counted from 0, of an image read by itself.
+// The i-th write, counted from 0, of an image read by itself, or that there is none; or refusal 4, 5 or 6.
 pub fn write(image: &[u8], i: usize) -> WriteAnswer
-    ensures { λ r. ⌜ r ≡ imageWrite (now (image .entry)) i ⌝ }
+    ensures { λ r. ⌜ r ≡ imageWrite spi (now (image .entry)) i ⌝ }
 {
     let answer = check(image);
     match answer {
@@ -112,9 +106,9 @@ pub fn write(image: &[u8], i: usize) -> WriteAnswer
     }
 }
 
-// A cursor before the first write of an image read by itself.
+// A cursor before the first write of an image read by itself; or refusal 4, 5 or 6.
 pub fn writes(image: &[u8]) -> Listing
-    ensures { λ r. ⌜ r ≡ imageListing (now (image .entry)) ⌝ }
+    ensures { λ r. ⌜ r ≡ imageListing spi (now (image .entry)) ⌝ }
 {
     let answer = check(image);
     match answer {

@@ -2,18 +2,19 @@
 ghost use mathlib.Core.Path.{_≡_};
 ghost use Prim.Native.Nat.{_+_, _≤_};
 ghost use lib.ListN.{length};
-ghost use Rattle.flash.specs.Flash.{over};
-ghost use Rattle.chip.specs.Kind.{spiHeader};
-ghost use Rattle.chip.specs.Answers.{layoutAnswer};
+ghost use Rattle.kind.specs.Spi.{spi};
+ghost use Rattle.base.specs.Output.{frontFilled};
+ghost use Rattle.kind.specs.Layout.{layoutAnswer};
 ghost use Rattle.builder.specs.Builder.{builtChip, goldenAnswer, buildAnswer, outputOf, buildOutput, LoadsGolden};
-ghost use Rattle.chip.specs.declared.kind.LayoutAnswer.the-variants.{Allowed};
+ghost use Rattle.builder.specs.Types.{LayoutAllowed};
+use base::refusal;
 use bootreader::image::ImageAnswer;
 use bootreader::image::check_within;
-use chip::kind::Layout;
-use chip::kind::LayoutAnswer;
-use chip::kind::Spi;
 use flash::erase;
-use flash::write;
+use flash::overwrite;
+use kind::layout::Layout;
+use kind::layout::LayoutAnswer;
+use kind::spi::Spi;
 
 // The chip was built, or a refusal that left the buffer as it was.
 pub enum BuildAnswer {
@@ -21,61 +22,33 @@ pub enum BuildAnswer {
     Refused { number: u32, place: usize },
 }
 
-// Segment 1's words, high byte first: write U to WBSTAR, IPROG to CMD, no-operation.
-fn header(update: usize) -> [u8; 20]
-    ensures { λ r. ⌜ r ≡ spiHeader update ⌝ }
-{
-    [
-        0x30,
-        0x02,
-        0x00,
-        0x01,
-        (update / 16_777_216 % 256) as u8,
-        (update / 65_536 % 256) as u8,
-        (update / 256 % 256) as u8,
-        (update % 256) as u8,
-        0x30,
-        0x00,
-        0x80,
-        0x01,
-        0x00,
-        0x00,
-        0x00,
-        0x0F,
-        0x20,
-        0x00,
-        0x00,
-        0x00,
-    ]
-}
-
 // Writes the chip into a buffer that it fits into.
 fn write_chip(layout: Layout, golden: &[u8], out: &mut [u8])
-    requires { ⌜ (8192 + length (now golden) ≤ layout .length) × (layout .length ≤ length (now out)) ⌝ }
-    ensures { λ r. ⌜ now (out .exit) ≡ over (now (out .entry)) 0 (builtChip layout (now (golden .entry))) ⌝ }
+    requires { ⌜ (8192 + length (now golden) ≤ layout .«chip_length») × (layout .«chip_length» ≤ length (now out)) ⌝ }
+    ensures { λ r. ⌜ now (out .exit) ≡ frontFilled (builtChip spi layout (now (golden .entry))) (now (out .entry)) ⌝ }
 {
-    let words = header(layout.update);
-    erase(out, 0, layout.length);
-    write(out, Spi::SEGMENT, &words);
-    write(out, Spi::GOLDEN, golden);
+    let words = Spi::warm_boot_words(layout.update_place);
+    erase(out, 0, layout.chip_length);
+    overwrite(out, Spi::SEGMENT, &words);
+    overwrite(out, Spi::GOLDEN, golden);
 }
 
 // Questions 4, 5 and 13, for a layout that is allowed.
 fn build_allowed(layout: Layout, golden: &[u8], out: &mut [u8]) -> BuildAnswer
-    requires { ⌜ layoutAnswer layout ≡ Allowed ⌝ }
-    ensures answer { λ r. ⌜ r ≡ goldenAnswer layout (now (golden .entry)) (length (now (out .entry))) ⌝ }
-    ensures output { λ r. ⌜ now (out .exit) ≡ outputOf (goldenAnswer layout (now (golden .entry)) (length (now (out .entry)))) layout (now (golden .entry)) (now (out .entry)) ⌝ }
+    requires { ⌜ layoutAnswer layout ≡ LayoutAllowed ⌝ }
+    ensures answer { λ r. ⌜ r ≡ goldenAnswer spi layout (now (golden .entry)) (length (now (out .entry))) ⌝ }
+    ensures output { λ r. ⌜ now (out .exit) ≡ outputOf spi (goldenAnswer spi layout (now (golden .entry)) (length (now (out .entry)))) layout (now (golden .entry)) (now (out .entry)) ⌝ }
 {
-    let checked = check_within(golden, layout.update - Spi::GOLDEN);
+    let checked = check_within(golden, layout.update_place - Spi::GOLDEN);
     match checked {
         ImageAnswer::Accepted {
             sync: _,
             end: _,
             writes: _,
         } => {
-            if out.len() < layout.length {
+            if out.len() < layout.chip_length {
                 return BuildAnswer::Refused {
-                    number: 19,
+                    number: refusal::NO_ROOM,
                     place: 0,
                 };
             }
@@ -86,11 +59,12 @@ fn build_allowed(layout: Layout, golden: &[u8], out: &mut [u8]) -> BuildAnswer
     }
 }
 
-// Builds a chip at the front of a buffer: F bytes, and what stands after them is unchanged.
+// Builds a chip at the front of a buffer: F bytes, and those after them are unchanged. Refusals 1 to 6 and 19 leave the
+// buffer as it was.
 pub fn build(layout: Layout, golden: &[u8], out: &mut [u8]) -> BuildAnswer
-    ensures answer { λ r. ⌜ r ≡ buildAnswer layout (now (golden .entry)) (length (now (out .entry))) ⌝ }
-    ensures output { λ r. ⌜ now (out .exit) ≡ buildOutput layout (now (golden .entry)) (now (out .entry)) ⌝ }
-    ensures loads { λ r. ⌜ LoadsGolden r layout (now (golden .entry)) (now (out .exit)) ⌝ }
+    ensures answer { λ r. ⌜ r ≡ buildAnswer spi layout (now (golden .entry)) (length (now (out .entry))) ⌝ }
+    ensures output { λ r. ⌜ now (out .exit) ≡ buildOutput spi layout (now (golden .entry)) (now (out .entry)) ⌝ }
+    ensures loads { λ r. ⌜ LoadsGolden spi r layout (now (golden .entry)) (now (out .exit)) ⌝ }
 {
     let allowed = layout.check();
     match allowed {

@@ -4,6 +4,7 @@
 use caselines::words::NOTHING;
 use caselines::words::REFUSED;
 use caselines::words::STATE;
+use digits::digit::digit_character;
 
 // A word, its letters from the highest byte down.
 pub fn word(word: u64) {
@@ -44,17 +45,15 @@ pub fn result(good: u64, bad: u64, number: u32, place: usize) {
     self::number(place);
 }
 
-// The character of a hexadecimal digit.
-fn digit(value: u8) -> u8 {
-    if value < 10 {
-        return 48 + value;
-    }
-    55 + value % 16
-}
-
 // A byte in hexadecimal.
 fn byte(b: u8) {
-    io::write_all(1, &[digit(b / 16), digit(b % 16)]);
+    io::write_all(
+        1,
+        &[
+            digit_character((b / 16) as usize),
+            digit_character((b % 16) as usize),
+        ],
+    );
 }
 
 // A word of a packet in hexadecimal.

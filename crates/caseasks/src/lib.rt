@@ -2,7 +2,7 @@
 // For the program above it alone: no more is proved here than that its functions are safe and end.
 ghost use Prim.Native.Nat.{_≤_};
 ghost use lib.ListN.{length};
-use base::smaller;
+use base::min;
 use bytes::scan::find;
 use caselines::parse::Fields;
 use caselines::parse::NONE;
@@ -97,8 +97,8 @@ pub fn read_case(line: &[u8], given: &mut [u8]) -> Case {
 
 // The bytes between two places, as far as there are any.
 pub fn field(given: &[u8], from: usize, to: usize) -> &[u8] {
-    let end = smaller(to, given.len());
-    let start = smaller(from, end);
+    let end = min(to, given.len());
+    let start = min(from, end);
     &given[start..end]
 }
 
@@ -107,7 +107,7 @@ pub fn copy_field(given: &[u8], from: usize, to: usize, out: &mut [u8]) -> usize
     ensures { λ r. ⌜ r ≤ length (now (out .exit)) ⌝ }
 {
     let bytes = field(given, from, to);
-    let size = smaller(bytes.len(), out.len());
+    let size = min(bytes.len(), out.len());
     bytes::copy(&bytes[0..size], out);
     size
 }

@@ -4,26 +4,27 @@ use mathlib.Core.List.{_++_}
 use native.Mathlib.Omega.{arith}
 use borrow.Author.Tests.{le-leb}
 use lib.ListN.{length, replicate}
-use Rattle.framing.specs.Search.{starts, find}
+use Rattle.framing.specs.Search.{beginsWith, find}
 use Rattle.framing.specs.Words.{words}
 use Rattle.base.specs.Question.{ask}
+use Rattle.base.specs.Output.{frontFilled}
 use Rattle.packets.specs.Header.{registerOk, type1Of, type2Of, headOf, effectOf}
 use Rattle.packets.specs.Trace.{modeOf, afterHeader, trace, finish}
-use Rattle.configreader.specs.Reading.{readAt, searchFrom, jump}
-use Rattle.bootreader.specs.Answers.{lengthAllowed, imageLength, aloneCase, imageAnswer}
-use Rattle.chip.specs.Layout.{updateAllowed, areaAllowed, askLayout}
-use Rattle.chip.specs.Answers.{layoutAnswer, switchCase, switchAnswer}
-use Rattle.orders.specs.Table.{byPhase, count, before as runBefore}
+use Rattle.configreader.specs.Configreader.{readAt, searchFrom, jump}
+use Rattle.kind.specs.Layout.{chipLengthAllowed, imageLengthAllowed, updatePlaceAllowed, updateLengthAllowed, askLayout, layoutAnswer}
+use Rattle.bootreader.specs.Image.{aloneCase, imageAnswer}
+use Rattle.chip.specs.Switch.{switchCase, switchAnswer}
+use Rattle.orders.specs.Table.{byPhase, count, countBefore as runBefore}
 use Rattle.orders.specs.Orders.{inPhase, ordersBefore}
 use Rattle.starts.specs.Starts.{totalAnswer}
-use Rattle.digits.specs.Digit.{digits, total, placeIn, digitOf}
+use Rattle.digits.specs.Digit.{digits, byteSum, placeIn, digitOf}
 use Rattle.mcsline.specs.Line.{isEnding, onto, bySpelled, spelledBy, lineSpells, byType, typed, parsed, byParsed}
-use Rattle.mcs.specs.Reading.{before, linesOf, follows, isEmpty, readFrom}
-use Rattle.mcs.specs.Answers.{answerOf, filledBy}
+use Rattle.mcs.specs.Reading.{prepend, linesOf, follows, isEmpty, readLines}
+use Rattle.mcs.specs.Reader.{answerOf, heldOutput}
 use Rattle.cases.specs.Cases.{imageSays, textSays, layoutSays, switchSays, totalSays, All, jumping, rows}
 
 table : All rows
-unfolding All rows imageSays textSays layoutSays switchSays totalSays answerOf filledBy readFrom byParsed follows parsed bySpelled typed byType lineSpells spelledBy onto isEnding isEmpty linesOf before digitOf placeIn digits total imageAnswer imageLength aloneCase ask readAt searchFrom jump find starts words trace finish afterHeader modeOf headOf type1Of type2Of registerOk effectOf layoutAnswer askLayout lengthAllowed updateAllowed areaAllowed switchAnswer switchCase totalAnswer runBefore count byPhase ordersBefore inPhase
+unfolding All rows imageSays textSays layoutSays switchSays totalSays answerOf heldOutput frontFilled readLines byParsed follows parsed bySpelled typed byType lineSpells spelledBy onto isEnding isEmpty linesOf prepend digitOf placeIn digits byteSum imageAnswer imageLengthAllowed aloneCase ask readAt searchFrom jump find beginsWith words trace finish afterHeader modeOf headOf type1Of type2Of registerOk effectOf layoutAnswer askLayout chipLengthAllowed updatePlaceAllowed updateLengthAllowed switchAnswer switchCase totalAnswer runBefore count byPhase ordersBefore inPhase
 table = (
   λ rest h. refl,
   (

@@ -3,23 +3,15 @@ use Prim.Native.Nat.{ℕ, _≤_}
 use mathlib.Core.Path.{_≡_}
 use mathlib.Core.List.{List, [], _∷_, _++_}
 use lib.ListN.{length, take, replicate}
-use Rattle.bootreader.specs.Answers.{imageAnswer}
-use Rattle.bootreader.specs.declared.image.ImageAnswer.{ImageAnswer}
-use Rattle.bootreader.specs.declared.image.ImageAnswer.the-variants.{Accepted, Refused}
+use Rattle.bootreader.specs.Image.{imageAnswer}
+use Rattle.cases.specs.Types.{ImageAnswer, Accepted, ImageRefused, LayoutAnswer, LayoutAllowed, LayoutRefused, SwitchAnswer, SwitchOn, SwitchOff, SwitchRefused, TotalAnswer, Total, TotalRefused, ReadAnswer, Read, ReadRefused}
 use Rattle.flash.specs.Flash.{erased}
-use Rattle.chip.specs.Answers.{layoutOf, layoutAnswer, switchAnswer}
-use Rattle.chip.specs.declared.kind.LayoutAnswer.{LayoutAnswer}
-use Rattle.chip.specs.declared.kind.LayoutAnswer.the-variants.{Allowed, Refused as LayoutRefused}
-use Rattle.chip.specs.declared.switch.SwitchAnswer.{SwitchAnswer}
-use Rattle.chip.specs.declared.switch.SwitchAnswer.the-variants.{On, Off, Refused as SwitchRefused}
-use Rattle.chip.specs.Kind.{spi}
+use Rattle.kind.specs.Layout.{layoutOf, layoutAnswer}
+use Rattle.chip.specs.Switch.{switchAnswer}
+use Rattle.kind.specs.Spi.{spi}
 use Rattle.orders.specs.Orders.{Order, orders as runOrders}
 use Rattle.starts.specs.Starts.{totalAnswer}
-use Rattle.starts.specs.declared.TotalAnswer.{TotalAnswer}
-use Rattle.starts.specs.declared.TotalAnswer.the-variants.{Total, Refused as TotalRefused}
-use Rattle.mcs.specs.Answers.{readAnswer, readOutput}
-use Rattle.mcs.specs.declared.reader.ReadAnswer.{ReadAnswer}
-use Rattle.mcs.specs.declared.reader.ReadAnswer.the-variants.{Read, Refused as TextRefused}
+use Rattle.mcs.specs.Reader.{readAnswer, readOutput}
 
 -- what the paper says of a case: what loads, which image a text holds, that a layout is allowed, that a switch is ON or OFF, how many orders a run has by the total and how many are listed, or a refusal's number and place
 pub data Says : Type 0 where
@@ -34,20 +26,20 @@ pub data Says : Type 0 where
 -- what a call answers, in the paper's values
 unfoldable pub imageSays : ImageAnswer → Says
 imageSays (Accepted sync end writes) = loads sync end writes
-imageSays (Refused number place) = refuses number place
+imageSays (ImageRefused number place) = refuses number place
 
 -- the same of a text read into a buffer: the bytes that the answer says are there
 unfoldable pub textSays : ReadAnswer → List ℕ → Says
 textSays (Read n) output = reads (take n output)
-textSays (TextRefused number place) output = refuses number place
+textSays (ReadRefused number place) output = refuses number place
 
 unfoldable pub layoutSays : LayoutAnswer → Says
-layoutSays Allowed = allows
+layoutSays LayoutAllowed = allows
 layoutSays (LayoutRefused number place) = refuses number place
 
 unfoldable pub switchSays : SwitchAnswer → Says
-switchSays On = isOn
-switchSays Off = isOff
+switchSays SwitchOn = isOn
+switchSays SwitchOff = isOff
 switchSays (SwitchRefused number place) = refuses number place
 
 -- the total that a run's length gives, beside the length of the list of its orders
@@ -71,30 +63,30 @@ All (row ∷ rows) = Holds row × All rows
 
 -- an image with nothing after it
 abbrev pub image : List ℕ → Says → Row
-image bytes said = record { asks = λ rest. imageSays (imageAnswer bytes); room = 0; says = said }
+image bytes expected = record { asks = λ rest. imageSays (imageAnswer spi bytes); room = 0; says = expected }
 
 -- an image with anything after it that question 4 allows
 abbrev pub imageAndMore : List ℕ → ℕ → Says → Row
-imageAndMore bytes room said = record { asks = λ rest. imageSays (imageAnswer (bytes ++ rest)); room = room; says = said }
+imageAndMore bytes room expected = record { asks = λ rest. imageSays (imageAnswer spi (bytes ++ rest)); room = room; says = expected }
 
 -- a text read into a buffer of 12 bytes and any more
 abbrev pub text : List ℕ → Says → Row
-text bytes said = record { asks = λ rest. textSays (readAnswer bytes (replicate 12 0 ++ rest)) (readOutput bytes (replicate 12 0 ++ rest)); room = 16777204; says = said }
+text bytes expected = record { asks = λ rest. textSays (readAnswer bytes (replicate 12 0 ++ rest)) (readOutput bytes (replicate 12 0 ++ rest)); room = 16777204; says = expected }
 
 -- a layout's F, U and A
 abbrev pub layout : ℕ → ℕ → ℕ → Says → Row
-layout length update area said = record { asks = λ rest. layoutSays (layoutAnswer (layoutOf length update area)); room = 0; says = said }
+layout length updatePlace updateLength expected = record { asks = λ rest. layoutSays (layoutAnswer (layoutOf length updatePlace updateLength)); room = 0; says = expected }
 
 -- a chip of 16,384 bytes with a switch word, else erased
 abbrev pub switch : List ℕ → Says → Row
-switch word said = record { asks = λ rest. switchSays (switchAnswer (erased 4092 ++ (word ++ erased 12288))); room = 0; says = said }
+switch word expected = record { asks = λ rest. switchSays (switchAnswer spi (erased 4092 ++ (word ++ erased 12288))); room = 0; says = expected }
 
 -- an image of n bytes and A, on a chip of 32,768 bytes with its update area at 12,288
 abbrev pub run : ℕ → ℕ → Says → Row
-run n area said = record {
-  asks = λ rest. totalSays (totalAnswer (layoutOf 32768 12288 area) n) (runOrders spi (layoutOf 32768 12288 area) (replicate n 0));
+run n updateLength expected = record {
+  asks = λ rest. totalSays (totalAnswer (layoutOf 32768 12288 updateLength) n) (runOrders spi (layoutOf 32768 12288 updateLength) (replicate n 0));
   room = 0;
-  says = said;
+  says = expected;
 }
 
 -- `:0C000000AA995566300080010000000D38` and the end line

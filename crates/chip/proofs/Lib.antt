@@ -1,4 +1,3 @@
-pub mod LayoutLaws
 pub mod SwitchLaws
 pub mod SpiLaws
 pub mod CutLaws

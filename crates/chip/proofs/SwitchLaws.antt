@@ -6,12 +6,13 @@ use mathlib.Core.List.{List}
 use native.Mathlib.Omega.{arith}
 use lib.ListN.{length, getD, drop}
 use lib.Seq.{getD-drop}
-use Rattle.framing.specs.Search.{syncBytes, starts}
+use Rattle.framing.specs.Search.{syncBytes, beginsWith}
 use Rattle.base.proofs.Laws.{false-of, false-true}
 use Rattle.framing.proofs.Laws.{starts-at, starts-all, starts-differs}
-use Rattle.chip.specs.Layout.{switchAt}
+use Rattle.kind.specs.Layout.{switchAt}
 use Rattle.flash.specs.Flash.{bit}
-use Rattle.chip.specs.Kind.{spi, spiOn, switchWord, Covers}
+use Rattle.kind.specs.Spi.{spi, spiOn}
+use Rattle.chip.specs.Chip.{switchWord, BitSuperset}
 use Rattle.flash.proofs.Laws.{span-at, span-length, same-bits}
 
 pub word-at : (chip : List ℕ) (j : ℕ) → j < 4 → getD (switchWord chip) j 0 ≡ getD chip (switchAt + j) 0
@@ -30,13 +31,13 @@ pub on-bytes : (chip : List ℕ) → spi .isOn (switchWord chip) ≡ true → (j
 on-bytes chip e j h = sym (word-at chip j h) ∙ starts-at spiOn (switchWord chip) e j h
 
 -- Where it is OFF, no sync word begins there.
-pub off-no-sync : (chip : List ℕ) → 4096 ≤ length chip → spi .isOn (switchWord chip) ≡ false → starts syncBytes (drop switchAt chip) ≡ false
+pub off-no-sync : (chip : List ℕ) → 4096 ≤ length chip → spi .isOn (switchWord chip) ≡ false → beginsWith syncBytes (drop switchAt chip) ≡ false
 off-no-sync chip l off =
-    false-of (starts syncBytes (drop switchAt chip))
+    false-of (beginsWith syncBytes (drop switchAt chip))
     (λ e. false-true (sym off ∙ is-on chip l (λ j k. sym (getD-drop switchAt chip j 0) ∙ starts-at syncBytes (drop switchAt chip) e j k)))
 
 -- A word between ON and ON is ON: so one that has every 1 bit of ON and is OFF stays OFF when more bits become 1.
-pub spi-stays-off : (word more : List ℕ) → Covers word spiOn → Covers more word → spi .isOn word ≡ false → spi .isOn more ≡ false
+pub spi-stays-off : (word more : List ℕ) → BitSuperset word spiOn → BitSuperset more word → spi .isOn word ≡ false → spi .isOn more ≡ false
 spi-stays-off word more low high off = false-of (spi .isOn more) (λ e. false-true (sym off ∙ on e))
   where
     same : spi .isOn more ≡ true → (j : ℕ) → j < 4 → getD word j 0 ≡ getD spiOn j 0

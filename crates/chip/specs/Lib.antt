@@ -1,5 +1,5 @@
--- What the contracts and the theorems of this crate say, in the order to read it: the layout, what an order may leave, the chip kind and a good chip, the calls.
-pub mod Layout
+-- What the contracts and the theorems of this crate say, in the order to read it: what an order may leave, well-formed chips and the laws of a kind, the switch word.
+pub mod Types
 pub mod Cut
-pub mod Kind
-pub mod Answers
+pub mod Chip
+pub mod Switch

@@ -1,4 +1,4 @@
-// The chip: its kind's fixed numbers and its layout (`kind`), and its switch word (`switch`).
+// The chip: its switch word (`switch`). In specs/ also which chips are well-formed, what an order may leave on them, and
+// the laws of a chip kind.
 
-pub mod kind;
 pub mod switch;

@@ -1,8 +1,10 @@
 // The switch of a chip.
 ghost use mathlib.Core.Path.{_≡_};
-ghost use Rattle.chip.specs.Answers.{switchAnswer};
-use crate::kind::Spi;
-use bootreader::chip::length_allowed;
+ghost use Rattle.kind.specs.Spi.{spi};
+ghost use Rattle.chip.specs.Switch.{switchAnswer};
+use base::refusal;
+use kind::layout::chip_length_allowed;
+use kind::spi::Spi;
 
 // ON or OFF, or a refusal.
 pub enum SwitchAnswer {
@@ -11,19 +13,19 @@ pub enum SwitchAnswer {
     Refused { number: u32, place: usize },
 }
 
-// The switch of a chip's bytes: ON is the one word, and every other is OFF.
+// The switch of a chip's bytes: ON is the one word, and every other is OFF; or refusal 1.
 pub fn read(chip: &[u8]) -> SwitchAnswer
-    ensures { λ r. ⌜ r ≡ switchAnswer (now (chip .entry)) ⌝ }
+    ensures { λ r. ⌜ r ≡ switchAnswer spi (now (chip .entry)) ⌝ }
 {
-    if !length_allowed(chip.len()) {
+    if !chip_length_allowed(chip.len()) {
         return SwitchAnswer::Refused {
-            number: 1,
+            number: refusal::BAD_CHIP_LENGTH,
             place: 0,
         };
     }
     let on = Spi::ON;
     let mut i = 0;
-    while i < 4 {
+    while i < Spi::SWITCH_LENGTH {
         if chip[Spi::SWITCH + i] != on[i] {
             return SwitchAnswer::Off;
         }

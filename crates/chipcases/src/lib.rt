@@ -1,6 +1,6 @@
 // The cases of what loads: the calls on a chip's bytes and on an image by itself, each with its answer printed.
 // For the program above it alone: no more is proved here than that each call is safe and ends.
-use bootreader::chip as loader;
+use bootreader::boot as loader;
 use bootreader::image;
 use caseanswers as say;
 use caseasks::Case;

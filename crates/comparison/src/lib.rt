@@ -1,12 +1,13 @@
-// Bytes that were read, compared with those that must stand there: some, and then FF. For the crates above it
+// Bytes that were read, compared with those expected there: some, and then FF. For the crates above it
 // alone: its functions ask their caller for no more bytes than a page has.
 ghost use Prim.Native.Nat.{_≤_};
 ghost use mathlib.Core.Path.{_≡_};
 ghost use mathlib.Core.Bool.{true};
 ghost use lib.ListN.{length};
-ghost use Rattle.chip.specs.Layout.{page};
+ghost use Rattle.kind.specs.Layout.{page};
 ghost use Rattle.flash.specs.Flash.{erased};
-ghost use Rattle.comparison.specs.Comparison.{filled, differs, comparison};
+ghost use Rattle.comparison.specs.Comparison.{padded, differs};
+ghost use Rattle.comparison.specs.Internal.{comparison};
 
 // What comparing came to: all bytes agree, or the first address at which they do not.
 pub enum Comparison {
@@ -15,9 +16,9 @@ pub enum Comparison {
 }
 
 // Bytes, then FF to the end of a page.
-pub fn filled_page(bytes: &[u8]) -> [u8; 256]
+pub fn padded_page(bytes: &[u8]) -> [u8; 256]
     requires { ⌜ length (now bytes) ≤ 256 ⌝ }
-    ensures { λ r. ⌜ r ≡ filled page (now (bytes .entry)) ⌝ }
+    ensures { λ r. ⌜ r ≡ padded page (now (bytes .entry)) ⌝ }
 {
     let mut filling = [0xFF; 256];
     let mut i = 0;
@@ -60,30 +61,30 @@ fn all_erased(bytes: &[u8]) -> bool
     all
 }
 
-// Whether bytes are those that must stand there: `must`, then FF.
-fn agree(bytes: &[u8], must: &[u8]) -> bool
-    requires { ⌜ length (now must) ≤ length (now bytes) ⌝ }
-    ensures { λ r. ⌜ (r ≡ true → now (bytes .entry) ≡ filled (length (now (bytes .entry))) (now (must .entry))) ⌝ }
+// Whether bytes are those expected there: `expected`, then FF.
+fn agree(bytes: &[u8], expected: &[u8]) -> bool
+    requires { ⌜ length (now expected) ≤ length (now bytes) ⌝ }
+    ensures { λ r. ⌜ (r ≡ true → now (bytes .entry) ≡ padded (length (now (bytes .entry))) (now (expected .entry))) ⌝ }
 {
-    let count = must.len();
-    if !same(&bytes[0..count], must) {
+    let count = expected.len();
+    if !same(&bytes[0..count], expected) {
         return false;
     }
     all_erased(&bytes[count..])
 }
 
-// The first address, from a place on, at which bytes are not those that must stand there.
-fn first_difference(place: usize, bytes: &[u8], must: &[u8]) -> Comparison
-    requires { ⌜ (place ≤ 16777216) × (length (now must) ≤ length (now bytes)) × (length (now bytes) ≤ 256) ⌝ }
-    ensures { λ r. ⌜ r ≡ comparison (differs place (now (bytes .entry)) (filled (length (now (bytes .entry))) (now (must .entry)))) ⌝ }
+// The first address, from a place on, at which bytes are not those expected there.
+fn first_difference(place: usize, bytes: &[u8], expected: &[u8]) -> Comparison
+    requires { ⌜ (place ≤ 16777216) × (length (now expected) ≤ length (now bytes)) × (length (now bytes) ≤ 256) ⌝ }
+    ensures { λ r. ⌜ r ≡ comparison (differs place (now (bytes .entry)) (padded (length (now (bytes .entry))) (now (expected .entry)))) ⌝ }
 {
     let mut i = 0;
     while i < bytes.len() {
-        let mut standing = 0xFF;
-        if i < must.len() {
-            standing = must[i];
+        let mut expected_byte = 0xFF;
+        if i < expected.len() {
+            expected_byte = expected[i];
         }
-        if bytes[i] != standing {
+        if bytes[i] != expected_byte {
             return Comparison::Differs { address: place + i };
         }
         i += 1;
@@ -91,14 +92,14 @@ fn first_difference(place: usize, bytes: &[u8], must: &[u8]) -> Comparison
     Comparison::Same
 }
 
-// Compares bytes from a place on with those that must stand there: `must`, then FF. Nearly every look
+// Compares bytes from a place on with those expected there: `expected`, then FF. Nearly every look
 // agrees, so the slower search for an address waits until one does not.
-pub fn compare(place: usize, bytes: &[u8], must: &[u8]) -> Comparison
-    requires { ⌜ (place ≤ 16777216) × (length (now must) ≤ length (now bytes)) × (length (now bytes) ≤ 256) ⌝ }
-    ensures { λ r. ⌜ r ≡ comparison (differs place (now (bytes .entry)) (filled (length (now (bytes .entry))) (now (must .entry)))) ⌝ }
+pub fn compare(place: usize, bytes: &[u8], expected: &[u8]) -> Comparison
+    requires { ⌜ (place ≤ 16777216) × (length (now expected) ≤ length (now bytes)) × (length (now bytes) ≤ 256) ⌝ }
+    ensures { λ r. ⌜ r ≡ comparison (differs place (now (bytes .entry)) (padded (length (now (bytes .entry))) (now (expected .entry)))) ⌝ }
 {
-    if agree(bytes, must) {
+    if agree(bytes, expected) {
         return Comparison::Same;
     }
-    first_difference(place, bytes, must)
+    first_difference(place, bytes, expected)
 }

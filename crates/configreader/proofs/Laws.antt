@@ -7,17 +7,14 @@ use native.Mathlib.Nat.{zero-add, add-assoc, mod-eq-of-lt}
 use native.Mathlib.Omega.{arith}
 use lib.ListN.{length, getD, drop, length-drop}
 use lib.Seq.{getD-drop}
-use Rattle.framing.specs.Search.{syncBytes, starts, find}
-use Rattle.framing.specs.Words.{words, wordAt}
+use Rattle.framing.specs.Search.{syncBytes, beginsWith, find}
+use Rattle.framing.specs.Words.{words}
+use Rattle.framing.specs.Internal.{wordAt}
 use Rattle.base.specs.Question.{ask}
 use Rattle.packets.specs.Header.{registerOk, type1Of, headOf, effectOf}
 use Rattle.packets.specs.Trace.{other, header, modeOf, afterHeader, trace, finish, finishFrom, writesFrom, contents}
-use Rattle.configreader.specs.Reading.{jump, readFrom, listed}
-use Rattle.framing.specs.declared.search.Found.{Found}
-use Rattle.framing.specs.declared.search.Found.the-variants.{At, Nothing as NoSync}
-use Rattle.packets.specs.declared.trace.Finish.the-variants.{Ended, Iprog}
-use Rattle.configreader.specs.declared.Outcome.the-variants.{Loaded}
-use Rattle.packets.specs.declared.trace.Write.{Write}
+use Rattle.configreader.specs.Configreader.{jump, readFrom, listed}
+use Rattle.configreader.specs.Types.{Found, SyncAt, NoSync, FinishEnded, FinishIprog, Write, Loaded}
 use Rattle.framing.proofs.Laws.{find-here, find-past, find-within, stands-at, words-cons, room}
 use Rattle.configreader.proofs.ReadingLaws.{read-ended, read-jump, search-found, search-none, jump-on, alone-parts}
 use Rattle.configreader.proofs.PlacementLaws.{find-moved, lookedTo, movedFinish, finish-moved, ended-after}
@@ -35,19 +32,19 @@ module _ (s t : List ℕ) (d from sync end writes : ℕ) (jumped : Bool)
     (alone : readFrom 0 jumped s from ≡ Loaded sync end writes jumped)
     (fits : d + end ≤ length t)
     (stands : (i : ℕ) → from ≤ i → i < end → getD t (d + i) 0 ≡ getD s i 0) where
-  found : find (drop from s) from ≡ At sync
+  found : find (drop from s) from ≡ SyncAt sync
   found = alone-parts jumped s from sync end writes jumped alone .0
 
-  ended : finishFrom s (sync + 4) ≡ Ended end writes
+  ended : finishFrom s (sync + 4) ≡ FinishEnded end writes
   ended = alone-parts jumped s from sync end writes jumped alone .1
 
   bounds : (from ≤ sync) × (sync + 4 ≤ from + length (drop from s))
   bounds = find-within (drop from s) from sync found
 
-  moved : (finishFrom t (d + (sync + 4)) ≡ Ended (d + end) writes) × (writesFrom t (d + (sync + 4)) ≡ map (movedWrite d) (writesFrom s (sync + 4)))
+  moved : (finishFrom t (d + (sync + 4)) ≡ FinishEnded (d + end) writes) × (writesFrom t (d + (sync + 4)) ≡ map (movedWrite d) (writesFrom s (sync + 4)))
   unfolding lookedTo movedFinish
   moved =
-      finish-moved s t d (sync + 4) (Ended end writes) ended (λ q. let z : _≡_ {A = ℕ} 0 1 = cc in omega arith) fits
+      finish-moved s t d (sync + 4) (FinishEnded end writes) ended (λ q. let z : _≡_ {A = ℕ} 0 1 = cc in omega arith) fits
       (λ i a b. stands i (let w = bounds in omega arith) b)
 
   -- PLACEMENT: whatever else t holds, a search that begins there loads it, d further on.
@@ -58,7 +55,7 @@ module _ (s t : List ℕ) (d from sync end writes : ℕ) (jumped : Bool)
       let here : from + (sync - from) ≡ sync = omega arith in
       let there : d + from + (sync - from) ≡ d + sync = omega arith in
       search-found (jump left t) after t (d + from) (d + sync)
-      (find-moved (drop from s) (drop (d + from) t) from (d + from) (sync - from) (found ∙ ap At (sym here)) (simp length-drop (omega arith)) same ∙ ap At there)
+      (find-moved (drop from s) (drop (d + from) t) from (d + from) (sync - from) (found ∙ ap SyncAt (sym here)) (simp length-drop (omega arith)) same ∙ ap SyncAt there)
       ∙ read-ended (jump left t) after t (d + sync) (d + end) writes (rw (add-assoc d sync 4) (moved .0))
     where
       same : (j : ℕ) → j < sync - from + 4 → getD (drop (d + from) t) j 0 ≡ getD (drop from s) j 0
@@ -100,7 +97,7 @@ ends-within s from sync end writes jumped alone = ended-after s (sync + 4) end w
 
 -- NO SYNC WORD BEGINS at any of the k places from `at` on. (`differs-at` says where none does.)
 abbrev pub NoneIn : List ℕ → ℕ → ℕ → Type 0
-NoneIn t at k = (i : ℕ) → i < k → starts syncBytes (drop (at + i) t) ≡ false
+NoneIn t at k = (i : ℕ) → i < k → beginsWith syncBytes (drop (at + i) t) ≡ false
 
 -- A SYNC WORD STANDS at a place.
 abbrev pub Stands : List ℕ → ℕ → Type 0
@@ -111,7 +108,7 @@ pub search-past : (left : ℕ) (jumped : Bool) (t : List ℕ) (at k : ℕ) → a
 search-past left jumped t at k l h = go (find (drop (at + k) t) (at + k)) refl
   where
     go : (f : Found) → find (drop (at + k) t) (at + k) ≡ f → readFrom left jumped t at ≡ readFrom left jumped t (at + k)
-    go (At sync) e =
+    go (SyncAt sync) e =
         search-found (jump left t) jumped t at sync (find-past t k at l h ∙ e)
         ∙ sym (search-found (jump left t) jumped t (at + k) sync e)
     go NoSync e =
@@ -129,7 +126,7 @@ four-words t p l =
     next : (q : ℕ) → q + 4 ≤ length t → words (drop q t) ≡ wordAt t q ∷ words (drop (q + 4) t)
     next q h = words-cons t q (let r = room t q in omega arith)
 
-header-jumps : (to p : ℕ) (rest : List ℕ) → finish (trace (0x30020001 ∷ to ∷ 0x30008001 ∷ 0x0000000F ∷ rest) p (header other)) 0 0 ≡ Iprog (p + 4 + 4 + 4) (to % 2 ^ 29)
+header-jumps : (to p : ℕ) (rest : List ℕ) → finish (trace (0x30020001 ∷ to ∷ 0x30008001 ∷ 0x0000000F ∷ rest) p (header other)) 0 0 ≡ FinishIprog (p + 4 + 4 + 4) (to % 2 ^ 29)
 unfolding trace finish afterHeader headOf type1Of ask registerOk effectOf modeOf
 header-jumps to p rest = refl
 
@@ -138,7 +135,7 @@ pub jumps-to : (left : ℕ) (jumped : Bool) (t : List ℕ) (from k to : ℕ) →
     wordAt t (from + k + 4) ≡ 0x30020001 → wordAt t (from + k + 8) ≡ to → wordAt t (from + k + 12) ≡ 0x30008001 → wordAt t (from + k + 16) ≡ 0x0000000F →
     to < length t → to < 2 ^ 29 → readFrom (suc left) jumped t from ≡ readFrom left true t to
 jumps-to left jumped t from k to none here l a b c d far near =
-    let e : find (drop from t) from ≡ At (from + k) = find-past t k from (omega arith) none ∙ find-here (drop (from + k) t) (from + k) (stands-at t (from + k) (omega arith) here) in
+    let e : find (drop from t) from ≡ SyncAt (from + k) = find-past t k from (omega arith) none ∙ find-here (drop (from + k) t) (from + k) (stands-at t (from + k) (omega arith) here) in
     let p₁ : from + k + 4 + 4 ≡ from + k + 8 = omega arith in
     let p₂ : from + k + 8 + 4 ≡ from + k + 12 = omega arith in
     let p₃ : from + k + 12 + 4 ≡ from + k + 16 = omega arith in

@@ -7,72 +7,67 @@ use mathlib.Core.List.{List, [], _∷_, map}
 use native.Mathlib.Nat.{add-zero, add-assoc}
 use native.Mathlib.Omega.{arith}
 use lib.ListN.{length, getD, drop}
-use Rattle.framing.specs.Search.{syncBytes, starts, find}
+use Rattle.framing.specs.Search.{syncBytes, beginsWith, find}
 use Rattle.framing.specs.Words.{words}
 use Rattle.packets.specs.Header.{headOf, effectOf}
 use Rattle.packets.specs.Trace.{other, Mode, header, payload, modeOf, afterHeader, Trace, trace, lastWbstar, finish, listOf, finishFrom, writesFrom}
-use Rattle.framing.specs.declared.search.Found.the-variants.{At}
-use Rattle.packets.specs.declared.header.Effect.{Effect}
-use Rattle.packets.specs.declared.header.Effect.the-variants.{GoesOn, Desync, Iprog as Jumps}
-use Rattle.packets.specs.declared.trace.Finish.{Finish}
-use Rattle.packets.specs.declared.trace.Finish.the-variants.{Ended, Iprog, Fault, Short}
-use Rattle.packets.specs.declared.trace.Write.{Write}
+use Rattle.configreader.specs.Types.{SyncAt, Effect, GoesOn, Desync, EffectIprog, Finish, FinishEnded, FinishIprog, FinishFault, FinishShort, Write}
 use Rattle.base.proofs.Laws.{false-of}
 use Rattle.framing.proofs.Laws.{starts-at, starts-all, find-here, find-next, find-within, word-of, word-after, room}
 use Rattle.packets.proofs.Laws.{trace-none, trace-header, trace-fault, trace-data, trace-desync, trace-iprog}
 
 -- The search: where the same bytes stand, the sync word is found at the same distance.
-pub find-moved : (xs ys : List ℕ) (p q i : ℕ) → find xs p ≡ At (p + i) → i + 4 ≤ length ys → ((j : ℕ) → j < i + 4 → getD ys j 0 ≡ getD xs j 0) → find ys q ≡ At (q + i)
+pub find-moved : (xs ys : List ℕ) (p q i : ℕ) → find xs p ≡ SyncAt (p + i) → i + 4 ≤ length ys → ((j : ℕ) → j < i + 4 → getD ys j 0 ≡ getD xs j 0) → find ys q ≡ SyncAt (q + i)
 unfolding find
 find-moved [] ys p q i e l h = let z : _≡_ {A = ℕ} 0 1 = cc in absurd (omega arith)
 find-moved (x ∷ xs) [] p q i e l h = absurd (omega arith)
-find-moved (x ∷ xs) (y ∷ ys) p q i e l h = go (starts syncBytes (x ∷ xs)) refl (λ i. find-moved xs ys (p + 1) (q + 1) i)
+find-moved (x ∷ xs) (y ∷ ys) p q i e l h = go (beginsWith syncBytes (x ∷ xs)) refl (λ i. find-moved xs ys (p + 1) (q + 1) i)
   where
     whole : i + 4 ≤ length (x ∷ xs)
     whole = let w : (p ≤ p + i) × (p + i + 4 ≤ p + length (x ∷ xs)) = find-within (x ∷ xs) p (p + i) e in omega arith
 
-    go : (b : Bool) → starts syncBytes (x ∷ xs) ≡ b →
-        ((i : ℕ) → find xs (p + 1) ≡ At (p + 1 + i) → i + 4 ≤ length ys → ((j : ℕ) → j < i + 4 → getD ys j 0 ≡ getD xs j 0) → find ys (q + 1) ≡ At (q + 1 + i)) →
-        find (y ∷ ys) q ≡ At (q + i)
+    go : (b : Bool) → beginsWith syncBytes (x ∷ xs) ≡ b →
+        ((i : ℕ) → find xs (p + 1) ≡ SyncAt (p + 1 + i) → i + 4 ≤ length ys → ((j : ℕ) → j < i + 4 → getD ys j 0 ≡ getD xs j 0) → find ys (q + 1) ≡ SyncAt (q + 1 + i)) →
+        find (y ∷ ys) q ≡ SyncAt (q + i)
     go true t ih =
-        let r : At p ≡ At (p + i) = sym (find-here (x ∷ xs) p t) ∙ e in
+        let r : SyncAt p ≡ SyncAt (p + i) = sym (find-here (x ∷ xs) p t) ∙ e in
         let k : p ≡ p + i = cc in
         let n : q ≡ q + i = omega arith in
-        find-here (y ∷ ys) q (starts-all syncBytes (y ∷ ys) (omega arith) (λ j b. h j (omega arith) ∙ starts-at syncBytes (x ∷ xs) t j b)) ∙ ap At n
+        find-here (y ∷ ys) q (starts-all syncBytes (y ∷ ys) (omega arith) (λ j b. h j (omega arith) ∙ starts-at syncBytes (x ∷ xs) t j b)) ∙ ap SyncAt n
     go false f ih =
-        let r : find xs (p + 1) ≡ At (p + i) = sym (find-next xs p x f) ∙ e in
+        let r : find xs (p + 1) ≡ SyncAt (p + i) = sym (find-next xs p x f) ∙ e in
         let w : (p + 1 ≤ p + i) × (p + i + 4 ≤ p + 1 + length xs) = find-within xs (p + 1) (p + i) r in
         let a : p + i ≡ p + 1 + (i - 1) = omega arith in
         let b : q + 1 + (i - 1) ≡ q + i = omega arith in
-        let other : starts syncBytes (y ∷ ys) ≡ false =
-        false-of (starts syncBytes (y ∷ ys)) (λ t. let z : _≡_ {A = ℕ} 0 1 = no-both t f in omega arith) in
+        let other : beginsWith syncBytes (y ∷ ys) ≡ false =
+        false-of (beginsWith syncBytes (y ∷ ys)) (λ t. let z : _≡_ {A = ℕ} 0 1 = no-both t f in omega arith) in
         find-next ys q y other
-        ∙ ih (i - 1) (r ∙ ap At a) (omega arith) (λ j k. h (suc j) (omega arith))
-        ∙ ap At b
+        ∙ ih (i - 1) (r ∙ ap SyncAt a) (omega arith) (λ j k. h (suc j) (omega arith))
+        ∙ ap SyncAt b
       where
-        no-both : starts syncBytes (y ∷ ys) ≡ true → starts syncBytes (x ∷ xs) ≡ false → _≡_ {A = ℕ} 0 1
+        no-both : beginsWith syncBytes (y ∷ ys) ≡ true → beginsWith syncBytes (x ∷ xs) ≡ false → _≡_ {A = ℕ} 0 1
         no-both t f =
-            let u : starts syncBytes (x ∷ xs) ≡ true = starts-all syncBytes (x ∷ xs) (omega (arith, whole)) (λ j b. sym (h j (omega arith)) ∙ starts-at syncBytes (y ∷ ys) t j b) in cc
+            let u : beginsWith syncBytes (x ∷ xs) ≡ true = starts-all syncBytes (x ∷ xs) (omega (arith, whole)) (λ j b. sym (h j (omega arith)) ∙ starts-at syncBytes (y ∷ ys) t j b) in cc
 
 -- The place after the last word that a reading of packets looked at.
 unfoldable pub lookedTo : Finish → ℕ
-lookedTo (Ended end writes) = end
-lookedTo (Iprog place to) = place + 4
-lookedTo (Fault place) = place + 4
-lookedTo Short = 0
+lookedTo (FinishEnded end writes) = end
+lookedTo (FinishIprog place to) = place + 4
+lookedTo (FinishFault place) = place + 4
+lookedTo FinishShort = 0
 
 -- The same end and the same writes, d further on.
 unfoldable pub movedFinish : ℕ → Finish → Finish
-movedFinish d (Ended end writes) = Ended (d + end) writes
-movedFinish d (Iprog place to) = Iprog (d + place) to
-movedFinish d (Fault place) = Fault (d + place)
-movedFinish d Short = Short
+movedFinish d (FinishEnded end writes) = FinishEnded (d + end) writes
+movedFinish d (FinishIprog place to) = FinishIprog (d + place) to
+movedFinish d (FinishFault place) = FinishFault (d + place)
+movedFinish d FinishShort = FinishShort
 
 abbrev pub movedWrite : ℕ → Write → Write
 movedWrite d w = record { register = w .register; word = w .word; place = d + w .place }
 
 -- A reading that does not run out of words looks at one at least, and only at those there are.
-looked : (ws : List ℕ) (p : ℕ) (m : Mode) (n wbstar : ℕ) (f : Finish) → finish (trace ws p m) n wbstar ≡ f → (f ≡ Short → ⊥) →
+looked : (ws : List ℕ) (p : ℕ) (m : Mode) (n wbstar : ℕ) (f : Finish) → finish (trace ws p m) n wbstar ≡ f → (f ≡ FinishShort → ⊥) →
     (p + 4 ≤ lookedTo f) × (lookedTo f ≤ p + 4 * length ws)
 unfolding trace finish lookedTo
 looked [] p m n wbstar f e h = absurd (h (sym e))
@@ -91,10 +86,10 @@ looked (x ∷ ws) p (payload register left) n wbstar f e h =
         (p + 4 ≤ lookedTo f) × (lookedTo f ≤ p + 4 * suc (length ws))
     go GoesOn a ih = let w = ih (rw (trace-data x ws p register left a) at e) in omega arith
     go Desync a ih = let k : p + 4 ≡ lookedTo f = ap lookedTo (rw (trace-desync x ws p register left a) at e) in omega arith
-    go Jumps a ih = let k : p + 4 ≡ lookedTo f = ap lookedTo (rw (trace-iprog x ws p register left a) at e) in omega arith
+    go EffectIprog a ih = let k : p + 4 ≡ lookedTo f = ap lookedTo (rw (trace-iprog x ws p register left a) at e) in omega arith
 
 -- The packets: where the same words stand, the reading ends the same and has the same writes, d further on.
-trace-moved : (ws vs : List ℕ) (d p : ℕ) (m : Mode) (n wbstar : ℕ) (f : Finish) → finish (trace ws p m) n wbstar ≡ f → (f ≡ Short → ⊥) →
+trace-moved : (ws vs : List ℕ) (d p : ℕ) (m : Mode) (n wbstar : ℕ) (f : Finish) → finish (trace ws p m) n wbstar ≡ f → (f ≡ FinishShort → ⊥) →
     ((i : ℕ) → p + 4 * i + 4 ≤ lookedTo f → (i < length vs) × (getD vs i 0 ≡ getD ws i 0)) →
     (finish (trace vs (d + p) m) n wbstar ≡ movedFinish d f) × (listOf (trace vs (d + p) m) ≡ map (movedWrite d) (listOf (trace ws p m)))
 unfolding finish listOf movedFinish
@@ -112,7 +107,7 @@ trace-moved (x ∷ ws) (y ∷ vs) d p (header before) n wbstar f e h same =
     Goal moved here = (finish moved n wbstar ≡ movedFinish d f) × (listOf moved ≡ map (movedWrite d) (listOf here))
 
     go : (o : Option Mode) → afterHeader (headOf x) before ≡ o →
-        ((m : Mode) → finish (trace ws (p + 4) m) n wbstar ≡ f → (f ≡ Short → ⊥) →
+        ((m : Mode) → finish (trace ws (p + 4) m) n wbstar ≡ f → (f ≡ FinishShort → ⊥) →
         ((i : ℕ) → p + 4 + 4 * i + 4 ≤ lookedTo f → (i < length vs) × (getD vs i 0 ≡ getD ws i 0)) →
         Goal (trace vs (d + (p + 4)) m) (trace ws (p + 4) m)) →
         Goal (trace (x ∷ vs) (d + p) (header before)) (trace (x ∷ ws) p (header before))
@@ -132,7 +127,7 @@ trace-moved (x ∷ ws) (y ∷ vs) d p (payload register left) n wbstar f e h sam
     Goal moved here n wbstar = (finish moved n wbstar ≡ movedFinish d f) × (listOf moved ≡ map (movedWrite d) (listOf here))
 
     go : (o : Effect) → effectOf register x ≡ o →
-        (finish (trace ws (p + 4) (modeOf left register other)) (n + 1) (lastWbstar (record { register = register; word = x; place = p }) wbstar) ≡ f → (f ≡ Short → ⊥) →
+        (finish (trace ws (p + 4) (modeOf left register other)) (n + 1) (lastWbstar (record { register = register; word = x; place = p }) wbstar) ≡ f → (f ≡ FinishShort → ⊥) →
         ((i : ℕ) → p + 4 + 4 * i + 4 ≤ lookedTo f → (i < length vs) × (getD vs i 0 ≡ getD ws i 0)) →
         Goal (trace vs (d + (p + 4)) (modeOf left register other)) (trace ws (p + 4) (modeOf left register other)) (n + 1) (lastWbstar (record { register = register; word = x; place = p }) wbstar)) →
         Goal (trace (x ∷ vs) (d + p) (payload register left)) (trace (x ∷ ws) p (payload register left)) n wbstar
@@ -143,12 +138,12 @@ trace-moved (x ∷ ws) (y ∷ vs) d p (payload register left) n wbstar f e h sam
     go Desync a ih =
         rw (trace-desync x vs (d + p) register left a, trace-desync x ws p register left a, add-assoc d p 4)
         (ap (movedFinish d) (rw (trace-desync x ws p register left a) at e), refl)
-    go Jumps a ih =
+    go EffectIprog a ih =
         rw (trace-iprog x vs (d + p) register left a, trace-iprog x ws p register left a)
         (ap (movedFinish d) (rw (trace-iprog x ws p register left a) at e), refl)
 
 -- The same of bytes: t has, d further on, the bytes of s that a reading of packets looked at.
-pub finish-moved : (s t : List ℕ) (d from : ℕ) (f : Finish) → finishFrom s from ≡ f → (f ≡ Short → ⊥) → d + lookedTo f ≤ length t →
+pub finish-moved : (s t : List ℕ) (d from : ℕ) (f : Finish) → finishFrom s from ≡ f → (f ≡ FinishShort → ⊥) → d + lookedTo f ≤ length t →
     ((i : ℕ) → from ≤ i → i < lookedTo f → getD t (d + i) 0 ≡ getD s i 0) →
     (finishFrom t (d + from) ≡ movedFinish d f) × (writesFrom t (d + from) ≡ map (movedWrite d) (writesFrom s from))
 finish-moved s t d from f e h l same = trace-moved (words (drop from s)) (words (drop (d + from) t)) d from (header other) 0 0 f e h words-same
@@ -169,9 +164,9 @@ finish-moved s t d from f e h l same = trace-moved (words (drop from s)) (words 
     )
 
 -- packets that end take one word at least, and only what there is
-pub ended-after : (s : List ℕ) (from end writes : ℕ) → finishFrom s from ≡ Ended end writes → (from + 4 ≤ end) × (end ≤ length s)
+pub ended-after : (s : List ℕ) (from end writes : ℕ) → finishFrom s from ≡ FinishEnded end writes → (from + 4 ≤ end) × (end ≤ length s)
 unfolding lookedTo
 ended-after s from end writes e =
     let l : (from + 4 ≤ end) × (end ≤ from + 4 * length (words (drop from s))) =
-    looked (words (drop from s)) from (header other) 0 0 (Ended end writes) e (λ q. let z : _≡_ {A = ℕ} 0 1 = cc in omega arith) in
+    looked (words (drop from s)) from (header other) 0 0 (FinishEnded end writes) e (λ q. let z : _≡_ {A = ℕ} 0 1 = cc in omega arith) in
     let r = room s from in omega arith

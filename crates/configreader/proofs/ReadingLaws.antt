@@ -10,36 +10,31 @@ use lib.Dec.{ltb}
 use lib.ListN.{length, drop, length-drop}
 use Rattle.framing.specs.Search.{find}
 use Rattle.packets.specs.Trace.{finishFrom}
-use Rattle.configreader.specs.Reading.{readAt, searchFrom, jump, readFrom}
-use Rattle.framing.specs.declared.search.Found.{Found}
-use Rattle.framing.specs.declared.search.Found.the-variants.{At, Nothing as NoSync}
-use Rattle.packets.specs.declared.trace.Finish.{Finish}
-use Rattle.packets.specs.declared.trace.Finish.the-variants.{Ended, Iprog, Fault, Short}
-use Rattle.configreader.specs.declared.Outcome.{Outcome}
-use Rattle.configreader.specs.declared.Outcome.the-variants.{Loaded, Iprog as NoJump, Stuck}
+use Rattle.configreader.specs.Configreader.{readAt, searchFrom, jump, readFrom}
+use Rattle.configreader.specs.Types.{Found, SyncAt, NoSync, Finish, FinishEnded, FinishIprog, FinishFault, FinishShort, Outcome, Loaded, OutcomeIprog, Stuck}
 use Rattle.framing.proofs.Laws.{find-within}
 
 -- Each way that a reading goes, one law.
 
 module _ (onJump : ℕ → ℕ → Outcome) (jumped : Bool) (s : List ℕ) (sync : ℕ) where
-  pub read-ended : (end writes : ℕ) → finishFrom s (sync + 4) ≡ Ended end writes → readAt onJump jumped s sync ≡ Loaded sync end writes jumped
+  pub read-ended : (end writes : ℕ) → finishFrom s (sync + 4) ≡ FinishEnded end writes → readAt onJump jumped s sync ≡ Loaded sync end writes jumped
   unfolding readAt
   read-ended end writes e = rw (e, readAt)
 
-  pub read-jump : (place to : ℕ) → finishFrom s (sync + 4) ≡ Iprog place to → readAt onJump jumped s sync ≡ onJump place to
+  pub read-jump : (place to : ℕ) → finishFrom s (sync + 4) ≡ FinishIprog place to → readAt onJump jumped s sync ≡ onJump place to
   unfolding readAt
   read-jump place to e = rw (e, readAt)
 
-  pub read-fault : (place : ℕ) → finishFrom s (sync + 4) ≡ Fault place → readAt onJump jumped s sync ≡ Stuck place
+  pub read-fault : (place : ℕ) → finishFrom s (sync + 4) ≡ FinishFault place → readAt onJump jumped s sync ≡ Stuck place
   unfolding readAt
   read-fault place e = rw (e, readAt)
 
-  pub read-short : finishFrom s (sync + 4) ≡ Short → readAt onJump jumped s sync ≡ Stuck (length s)
+  pub read-short : finishFrom s (sync + 4) ≡ FinishShort → readAt onJump jumped s sync ≡ Stuck (length s)
   unfolding readAt
   read-short e = rw (e, readAt)
 
 module _ (onJump : ℕ → ℕ → Outcome) (jumped : Bool) (s : List ℕ) (from : ℕ) where
-  pub search-found : (sync : ℕ) → find (drop from s) from ≡ At sync → searchFrom onJump jumped s from ≡ readAt onJump jumped s sync
+  pub search-found : (sync : ℕ) → find (drop from s) from ≡ SyncAt sync → searchFrom onJump jumped s from ≡ readAt onJump jumped s sync
   unfolding searchFrom
   search-found sync e = rw (e, searchFrom)
 
@@ -58,7 +53,7 @@ on-by zero s place to h e = absurd (h refl)
 on-by (suc left) s place to h e = let k : left ≡ suc left - 1 = omega arith in rw (e, jump) (ap (λ (n : ℕ). readFrom n true s to) k)
 
 module _ (left : ℕ) (s : List ℕ) (place to : ℕ) where
-  pub jump-none : left ≡ 0 → jump left s place to ≡ NoJump place
+  pub jump-none : left ≡ 0 → jump left s place to ≡ OutcomeIprog place
   unfolding jump
   jump-none e = rw e refl
 
@@ -70,8 +65,8 @@ module _ (left : ℕ) (s : List ℕ) (place to : ℕ) where
 
 -- What Loaded says of the bytes: its sync stands whole in them, and the packets after it end as it says.
 unfoldable pub Proper : List ℕ → Outcome → Type 0
-Proper s (Loaded sync end writes jumped) = (sync + 4 ≤ length s) × (finishFrom s (sync + 4) ≡ Ended end writes)
-Proper s (NoJump place) = Unit {0}
+Proper s (Loaded sync end writes jumped) = (sync + 4 ≤ length s) × (finishFrom s (sync + 4) ≡ FinishEnded end writes)
+Proper s (OutcomeIprog place) = Unit {0}
 Proper s (Stuck place) = Unit {0}
 
 proper-at : (onJump : ℕ → ℕ → Outcome) (jumped : Bool) (s : List ℕ) (sync : ℕ) → ((place to : ℕ) → Proper s (onJump place to)) → sync + 4 ≤ length s → Proper s (readAt onJump jumped s sync)
@@ -79,17 +74,17 @@ unfolding Proper
 proper-at onJump jumped s sync h l = go (finishFrom s (sync + 4)) refl
   where
     go : (f : Finish) → finishFrom s (sync + 4) ≡ f → Proper s (readAt onJump jumped s sync)
-    go (Ended end writes) e = rw (read-ended onJump jumped s sync end writes e) (l, e)
-    go (Iprog place to) e = rw (read-jump onJump jumped s sync place to e) (h place to)
-    go (Fault place) e = rw (read-fault onJump jumped s sync place e) tt
-    go Short e = rw (read-short onJump jumped s sync e) tt
+    go (FinishEnded end writes) e = rw (read-ended onJump jumped s sync end writes e) (l, e)
+    go (FinishIprog place to) e = rw (read-jump onJump jumped s sync place to e) (h place to)
+    go (FinishFault place) e = rw (read-fault onJump jumped s sync place e) tt
+    go FinishShort e = rw (read-short onJump jumped s sync e) tt
 
 proper-search : (onJump : ℕ → ℕ → Outcome) (jumped : Bool) (s : List ℕ) (from : ℕ) → ((place to : ℕ) → Proper s (onJump place to)) → from ≤ length s → Proper s (searchFrom onJump jumped s from)
 unfolding Proper
 proper-search onJump jumped s from h l = go (find (drop from s) from) refl
   where
     go : (f : Found) → find (drop from s) from ≡ f → Proper s (searchFrom onJump jumped s from)
-    go (At sync) e = rw (search-found onJump jumped s from sync e) (proper-at onJump jumped s sync h (let w : (from ≤ sync) × (sync + 4 ≤ from + length (drop from s)) = find-within (drop from s) from sync e in omega (arith, length-drop from s)))
+    go (SyncAt sync) e = rw (search-found onJump jumped s from sync e) (proper-at onJump jumped s sync h (let w : (from ≤ sync) × (sync + 4 ≤ from + length (drop from s)) = find-within (drop from s) from sync e in omega (arith, length-drop from s)))
     go NoSync e = rw (search-none onJump jumped s from e) tt
 
 proper-jump : (left : ℕ) (s : List ℕ) (place to : ℕ) → Proper s (jump left s place to)
@@ -106,20 +101,20 @@ proper left jumped s from l = proper-search (jump left s) jumped s from (proper-
 
 -- What a reading alone that is Loaded comes from: a sync word found, packets that end, and no jump.
 pub alone-parts : (jumped : Bool) (s : List ℕ) (from sync end writes : ℕ) (after : Bool) → readFrom 0 jumped s from ≡ Loaded sync end writes after →
-    (find (drop from s) from ≡ At sync) × (finishFrom s (sync + 4) ≡ Ended end writes) × (after ≡ jumped)
+    (find (drop from s) from ≡ SyncAt sync) × (finishFrom s (sync + 4) ≡ FinishEnded end writes) × (after ≡ jumped)
 unfolding jump
 alone-parts jumped s from sync end writes after h = go (find (drop from s) from) refl
   where
-    end-of : (at : ℕ) → find (drop from s) from ≡ At at → (f : Finish) → finishFrom s (at + 4) ≡ f →
-        (find (drop from s) from ≡ At sync) × (finishFrom s (sync + 4) ≡ Ended end writes) × (after ≡ jumped)
-    end-of at e (Ended a b) g =
+    end-of : (at : ℕ) → find (drop from s) from ≡ SyncAt at → (f : Finish) → finishFrom s (at + 4) ≡ f →
+        (find (drop from s) from ≡ SyncAt sync) × (finishFrom s (sync + 4) ≡ FinishEnded end writes) × (after ≡ jumped)
+    end-of at e (FinishEnded a b) g =
         let q = sym h ∙ search-found (jump 0 s) jumped s from at e ∙ read-ended (jump 0 s) jumped s at a b g in
         let k : at ≡ sync = cc in
         (e ∙ cc, rw k at g ∙ cc, cc)
-    end-of at e (Iprog a b) g = let q = sym h ∙ search-found (jump 0 s) jumped s from at e ∙ read-jump (jump 0 s) jumped s at a b g in let z : _≡_ {A = ℕ} 0 1 = cc in absurd (omega arith)
-    end-of at e (Fault a) g = let q = sym h ∙ search-found (jump 0 s) jumped s from at e ∙ read-fault (jump 0 s) jumped s at a g in let z : _≡_ {A = ℕ} 0 1 = cc in absurd (omega arith)
-    end-of at e Short g = let q = sym h ∙ search-found (jump 0 s) jumped s from at e ∙ read-short (jump 0 s) jumped s at g in let z : _≡_ {A = ℕ} 0 1 = cc in absurd (omega arith)
+    end-of at e (FinishIprog a b) g = let q = sym h ∙ search-found (jump 0 s) jumped s from at e ∙ read-jump (jump 0 s) jumped s at a b g in let z : _≡_ {A = ℕ} 0 1 = cc in absurd (omega arith)
+    end-of at e (FinishFault a) g = let q = sym h ∙ search-found (jump 0 s) jumped s from at e ∙ read-fault (jump 0 s) jumped s at a g in let z : _≡_ {A = ℕ} 0 1 = cc in absurd (omega arith)
+    end-of at e FinishShort g = let q = sym h ∙ search-found (jump 0 s) jumped s from at e ∙ read-short (jump 0 s) jumped s at g in let z : _≡_ {A = ℕ} 0 1 = cc in absurd (omega arith)
 
-    go : (f : Found) → find (drop from s) from ≡ f → (find (drop from s) from ≡ At sync) × (finishFrom s (sync + 4) ≡ Ended end writes) × (after ≡ jumped)
-    go (At at) e = end-of at e (finishFrom s (at + 4)) refl
+    go : (f : Found) → find (drop from s) from ≡ f → (find (drop from s) from ≡ SyncAt sync) × (finishFrom s (sync + 4) ≡ FinishEnded end writes) × (after ≡ jumped)
+    go (SyncAt at) e = end-of at e (finishFrom s (at + 4)) refl
     go NoSync e = let q = sym h ∙ search-none (jump 0 s) jumped s from e in let z : _≡_ {A = ℕ} 0 1 = cc in absurd (omega arith)

@@ -1,2 +1,3 @@
 -- What the configuration reader reads, from sync to sync.
-pub mod Reading
+pub mod Types
+pub mod Configreader

@@ -4,7 +4,7 @@
 ghost use mathlib.Core.Path.{_≡_};
 ghost use Prim.Native.Nat.{_+_, _≤_};
 ghost use lib.ListN.{length};
-ghost use Rattle.configreader.specs.Reading.{readFrom, readAt, jump, readChip, readAlone};
+ghost use Rattle.configreader.specs.Configreader.{readFrom, readAt, jump, readChip, readAlone};
 use framing::search::Found;
 use framing::search::find_sync;
 use packets::trace::Finish;

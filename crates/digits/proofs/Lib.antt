@@ -1,3 +1,4 @@
+pub mod CharacterLaws
 pub mod TableLaws
 pub mod DigitLaws
 pub mod PairLaws

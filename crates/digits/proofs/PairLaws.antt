@@ -6,10 +6,9 @@ use native.Mathlib.Nat.{add-zero}
 use native.Mathlib.Omega.{arith}
 use borrow.Author.Count.{below-more}
 use lib.ListN.{length, getD, take, drop}
-use Rattle.digits.specs.Digit.{total}
+use Rattle.digits.specs.Digit.{byteSum}
 use Rattle.digits.specs.Pairs.{pairAt, IsPair, ArePairs, pairsAt, Summed}
-use Rattle.digits.specs.declared.pairs.Sum.{Sum}
-use Rattle.digits.specs.declared.pairs.Sum.the-variants.{Of, Broken as NoSum}
+use Rattle.digits.specs.Types.{Sum, SumOf, SumBroken}
 
 module _ (text : List ℕ) where
   on : (at j : ℕ) → at + 2 + 2 * j ≡ at + 2 * suc j
@@ -36,21 +35,21 @@ module _ (text : List ℕ) where
   take-pairs zero m at = refl
   take-pairs (suc k) m at = let a : suc k + m ≡ suc (k + m) = omega arith in rw a (ap (λ (l : List ℕ). pairAt text at ∷ l) (take-pairs k m (at + 2)))
 
-  pub total-pairs : (k at : ℕ) → total (pairsAt text at (k + 1)) ≡ total (pairsAt text at k) + pairAt text (at + 2 * k)
-  unfolding pairsAt total
+  pub total-pairs : (k at : ℕ) → byteSum (pairsAt text at (k + 1)) ≡ byteSum (pairsAt text at k) + pairAt text (at + 2 * k)
+  unfolding pairsAt byteSum
   total-pairs zero at = let b : at + 2 * 0 ≡ at = omega arith in rw b (omega arith)
   total-pairs (suc k) at =
       let a : suc k + 1 ≡ suc (k + 1) = omega arith in
-      let ih : total (pairsAt text (at + 2) (k + 1)) ≡ total (pairsAt text (at + 2) k) + pairAt text (at + 2 * suc k) = total-pairs k (at + 2) ∙ rw on refl in
+      let ih : byteSum (pairsAt text (at + 2) (k + 1)) ≡ byteSum (pairsAt text (at + 2) k) + pairAt text (at + 2 * suc k) = total-pairs k (at + 2) ∙ rw on refl in
       rw a (omega arith)
 
   pub are-more : (at k : ℕ) → ArePairs text at k → IsPair text (at + 2 * k) → ArePairs text at (k + 1)
   are-more at k h p = below-more (λ (j : ℕ). IsPair text (at + 2 * j)) k h p
 
-pub summed-pairs : (text : List ℕ) (at count n : ℕ) (s : Sum) → Summed text at count s → s ≡ Of n → ArePairs text at count × (n ≡ total (pairsAt text at count))
+pub summed-pairs : (text : List ℕ) (at count n : ℕ) (s : Sum) → Summed text at count s → s ≡ SumOf n → ArePairs text at count × (n ≡ byteSum (pairsAt text at count))
 unfolding Summed
 summed-pairs text at count n s h e = rw e at h
 
-pub summed-none : (text : List ℕ) (at count : ℕ) (s : Sum) → Summed text at count s → s ≡ NoSum → ArePairs text at count → ⊥
+pub summed-none : (text : List ℕ) (at count : ℕ) (s : Sum) → Summed text at count s → s ≡ SumBroken → ArePairs text at count → ⊥
 unfolding Summed
 summed-none text at count s h e = rw e at h

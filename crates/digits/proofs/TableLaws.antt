@@ -10,7 +10,7 @@ use lib.Dec.{eqb}
 use lib.ListN.{length, getD, replicate}
 use Rattle.base.proofs.Laws.{both-true}
 use Rattle.digits.specs.Digit.{digits, placeIn, digitOf}
-use Rattle.digits.specs.Pairs.{DigitTable}
+use Rattle.digits.specs.Table.{DigitTable}
 
 -- each entry, from place i on, is what the rule says of its place
 abbrev pub agrees : (ℕ → ℕ) → ℕ → List ℕ → Bool

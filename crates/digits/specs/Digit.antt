@@ -1,7 +1,7 @@
--- Capital hexadecimal digits: bytes to digits, and characters to values. Document 01, "MCS text".
-use Prim.Native.Nat.{ℕ, suc, _+_, _/_, _%_}
+-- Capital hexadecimal digits both ways: numbers to characters, and characters to values. Document 01, "MCS text" and "Proof cases".
+use Prim.Native.Nat.{ℕ, zero, suc, _+_, _/_, _%_}
 use mathlib.Core.Bool.{Bool, true, false}
-use mathlib.Core.List.{List, [], _∷_}
+use mathlib.Core.List.{List, [], _∷_, _++_}
 use lib.Dec.{eqb, ltb}
 use lib.ListN.{getD}
 
@@ -11,7 +11,12 @@ digits =
     0x30 ∷ 0x31 ∷ 0x32 ∷ 0x33 ∷ 0x34 ∷ 0x35 ∷ 0x36 ∷ 0x37 ∷ 0x38 ∷ 0x39
     ∷ 0x41 ∷ 0x42 ∷ 0x43 ∷ 0x44 ∷ 0x45 ∷ 0x46 ∷ []
 
--- Bytes.
+-- Numbers to characters.
+
+-- so many digits of a number, the highest first
+unfoldable pub hexadecimal : ℕ → ℕ → List ℕ
+hexadecimal zero n = []
+hexadecimal (suc count) n = hexadecimal count (n / 16) ++ getD digits (n % 16) 0 ∷ []
 
 -- bytes as pairs of digits
 unfoldable pub hex : List ℕ → List ℕ
@@ -19,13 +24,13 @@ hex [] = []
 hex (byte ∷ bytes) = getD digits (byte / 16) 0 ∷ getD digits (byte % 16) 0 ∷ hex bytes
 
 -- what bytes add to
-unfoldable pub total : List ℕ → ℕ
-total [] = 0
-total (byte ∷ bytes) = byte + total bytes
+unfoldable pub byteSum : List ℕ → ℕ
+byteSum [] = 0
+byteSum (byte ∷ bytes) = byte + byteSum bytes
 
--- Characters.
+-- Characters to values.
 
--- where a character stands in a list; the list's length where it does not
+-- where a character is in a list; the list's length where it is not
 unfoldable pub placeIn : List ℕ → ℕ → ℕ
 placeIn [] c = 0
 placeIn (d ∷ ds) c = elim (eqb c d) [ true ↦ 0 | false ↦ suc (placeIn ds c) ]

@@ -1,16 +1,10 @@
--- What only the contracts of functions that are not public calls cite: pairs of digits by their place in the text. No promise of a public call rests on it.
+-- Pairs of digits by their place in the text. Only contracts of functions that are no public calls cite it.
 use Prim.Native.Nat.{ℕ, zero, suc, _+_, _*_, _<_}
 use mathlib.Core.Path.{_≡_}
 use mathlib.Core.List.{List, [], _∷_}
 use lib.ListN.{length, getD}
-use Rattle.digits.specs.Digit.{digitOf, total}
-use Rattle.digits.specs.declared.pairs.Sum.{Sum}
-use Rattle.digits.specs.declared.pairs.Sum.the-variants.{Of, Broken as NoSum}
-
--- the digit's value of each of the 256 characters
-pub record DigitTable (values : List ℕ) : Type 0 where
-  pub size : length values ≡ 256
-  pub entry : (c : ℕ) → c < 256 → getD values c 0 ≡ digitOf c
+use Rattle.digits.specs.Digit.{digitOf, byteSum}
+use Rattle.digits.specs.Types.{Sum, SumOf, SumBroken}
 
 abbrev pub pairAt : List ℕ → ℕ → ℕ
 pairAt text at = 16 * digitOf (getD text at 0) + digitOf (getD text (at + 1) 0)
@@ -31,5 +25,5 @@ pairsAt text at (suc count) = pairAt text at ∷ pairsAt text (at + 2) count
 
 -- what a sum of pairs says of them
 unfoldable pub Summed : List ℕ → ℕ → ℕ → Sum → Type 0
-Summed text at count (Of sum) = ArePairs text at count × (sum ≡ total (pairsAt text at count))
-Summed text at count NoSum = ArePairs text at count → ⊥
+Summed text at count (SumOf sum) = ArePairs text at count × (sum ≡ byteSum (pairsAt text at count))
+Summed text at count SumBroken = ArePairs text at count → ⊥

@@ -1,9 +1,21 @@
-// Capital hexadecimal digits and pairs of them.
+// Capital hexadecimal digits both ways, and pairs of them.
 ghost use mathlib.Core.Path.{_≡_};
-ghost use Prim.Native.Nat.{_+_, _≤_};
-ghost use lib.ListN.{length};
-ghost use Rattle.digits.specs.Digit.{digitOf};
-ghost use Rattle.digits.specs.Pairs.{DigitTable, pairAt, twoPairsAt};
+ghost use Prim.Native.Nat.{_+_, _<_, _≤_};
+ghost use lib.ListN.{length, getD};
+ghost use Rattle.digits.specs.Digit.{digits, digitOf};
+ghost use Rattle.digits.specs.Table.{DigitTable};
+ghost use Rattle.digits.specs.Pairs.{pairAt, twoPairsAt};
+
+// The character of a digit.
+pub fn digit_character(value: usize) -> u8
+    requires { ⌜ value < 16 ⌝ }
+    ensures { λ r. ⌜ r ≡ getD digits value 0 ⌝ }
+{
+    if value < 10 {
+        return (48 + value) as u8;
+    }
+    (55 + value) as u8
+}
 
 // The value of a character as a digit, 16 where it is none.
 pub(crate) fn digit(values: &[u8], c: u8) -> u32

@@ -1,8 +1,12 @@
-// What many pairs of digits, one after the other, add to.
+// Many pairs of digits, one after the other: what they add to, and the bytes that they make.
+ghost use mathlib.Core.Path.{_≡_};
 ghost use Prim.Native.Nat.{_+_, _*_, _≤_};
 ghost use lib.ListN.{length};
-ghost use Rattle.digits.specs.Pairs.{DigitTable, Summed};
+ghost use lib.Seq.{paste};
+ghost use Rattle.digits.specs.Table.{DigitTable};
+ghost use Rattle.digits.specs.Pairs.{ArePairs, pairsAt, Summed};
 use crate::digit::digit;
+use crate::digit::pair;
 
 // What pairs add to, or that one of them is none.
 pub enum Sum {
@@ -30,4 +34,16 @@ pub fn sum_pairs(values: &[u8], text: &[u8], at: usize, count: usize) -> Sum
         i += 1;
     }
     Sum::Of(sum)
+}
+
+// The bytes that so many pairs from `from` on make, at `to`.
+pub fn decode(values: &[u8], text: &[u8], from: usize, out: &mut [u8], to: usize, bytes: usize)
+    requires { ⌜ (from + 2 * bytes ≤ length (now text)) × (to + bytes ≤ length (now out)) × ArePairs (now text) from bytes × DigitTable (now values) ⌝ }
+    ensures { λ r. ⌜ now (out .exit) ≡ paste (now (out .entry)) to (pairsAt (now (text .entry)) from bytes) bytes ⌝ }
+{
+    let mut i = 0;
+    while i < bytes {
+        out[to + i] = (pair(values, text, from + 2 * i) % 256) as u8;
+        i += 1;
+    }
 }

@@ -1,5 +1,5 @@
 // The values of all characters as digits.
-ghost use Rattle.digits.specs.Pairs.{DigitTable};
+ghost use Rattle.digits.specs.Table.{DigitTable};
 
 // The value of each character as a capital hexadecimal digit, 16 where it is none. It is a table
 // because what digit a character is cannot be foreseen, so that a branch on it costs more than all

@@ -8,21 +8,20 @@ use native.Mathlib.Omega.{arith}
 use native.Mathlib.Nat.{zero-add}
 use lib.ListN.{length, getD, take}
 use lib.Seq.{take-all, take-append-seam}
-use Rattle.bootreader.proofs.Laws.{length-allowed}
-use Rattle.chip.specs.Layout.{page, segment}
-use Rattle.flash.specs.Flash.{erased, span, within, afterProgram}
-use Rattle.chip.specs.Kind.{Kind, Lawful, spi}
-use Rattle.chip.specs.declared.kind.Layout.{Layout}
-use Rattle.chip.proofs.Laws.{update-allowed, area-allowed, spi-lawful}
-use Rattle.flash.proofs.Laws.{span-length, over-length, over-before, over-inside, within-over, erased-length, cleared-length, erased-at}
-use Rattle.orders.specs.Table.{byPhase, count, before, total}
+use Rattle.kind.proofs.Laws.{chip-length-range, update-place-range, update-length-range}
+use Rattle.kind.specs.Layout.{page, segment}
+use Rattle.flash.specs.Flash.{erased, span, overwriteInRange, afterProgram}
+use Rattle.kind.specs.Kind.{Kind}
+use Rattle.chip.specs.Chip.{Lawful}
+use Rattle.kind.specs.Spi.{spi}
+use Rattle.effects.specs.Types.{Layout, State, Operation, Erase, Program, Look}
+use Rattle.chip.proofs.Laws.{spi-lawful}
+use Rattle.flash.proofs.Laws.{span-length, overwrite-length, overwrite-before, overwrite-inside, in-range, erased-length, cleared-length, erased-at}
+use Rattle.orders.specs.Table.{byPhase, count, countBefore, total}
 use Rattle.orders.specs.Orders.{Order, erase, program, look, pageOf, orderOf, orders, operationOf, programmed, orderBytes}
-use Rattle.updater.specs.Run.{position, first, after, running, fits, currentOrder}
-use Rattle.effects.specs.Effects.{placeOf, obeyedSpan, leaves, obeyed, obeyedAll, spanOf}
+use Rattle.updater.specs.State.{position, first, after, running, fits, currentOrder}
+use Rattle.effects.specs.Effects.{orderPlace, obeyedSpan, leaves, obeyed, obeyedAll, orderLength}
 use Rattle.effects.specs.Progress.{chipAfter, stateAfter}
-use Rattle.updater.specs.declared.run.State.{State}
-use Rattle.orders.specs.declared.Operation.{Operation}
-use Rattle.orders.specs.declared.Operation.the-variants.{Erase, Program, Look}
 use Rattle.orders.proofs.Laws.{phases, area-segments, before-later, orders-length, page-length}
 use Rattle.updater.proofs.Laws.{Numbers, numbers-image, fits-says, running-says, after-index, after-phase, last-or-not, after-fits, after-position, position-running, position-ended, current-order, index-at}
 use Rattle.effects.proofs.ReachLaws.{in-reach}
@@ -48,7 +47,7 @@ pub record Reaches (layout : Layout) (n k : ℕ) (state : State) : Type 0 where
 module _ (layout : Layout) (n : ℕ) where
   -- the first, and the next
   pub reaches-first : (state : State) → state ≡ first layout n → fits state n ≡ true → Reaches layout n 0 state
-  unfolding stateAfter before
+  unfolding stateAfter countBefore
   reaches-first state e f = record { is = e; fit = f; at = ap position e; same = ap (λ (s : State). s .layout) e }
 
   pub reaches-next : (k : ℕ) (state : State) → Reaches layout n k state → running state ≡ true → Reaches layout n (k + 1) (after state)
@@ -61,7 +60,7 @@ module _ (layout : Layout) (n : ℕ) where
         same = after-layout state ∙ r .same;
       }
 
-  total-of : (k : ℕ) (state : State) → Reaches layout n k state → total (state .layout) (state .length) ≡ total layout n
+  total-of : (k : ℕ) (state : State) → Reaches layout n k state → total (state .layout) (state .«image_length») ≡ total layout n
   total-of k state r = ap₂ total (r .same) (fits-says state n (r .fit) .same)
 
   -- The run goes on before the total, and ends there.
@@ -120,16 +119,16 @@ chip-all kind layout image chip k cut e h =
     ap (λ (l : List Order). obeyedAll l chip) (take-all k (orders kind layout image) (omega arith) ∙ sym (take-all cut (orders kind layout image) (omega arith)))
 
 -- THE ORDERS. One whose span lies within the chip fills it, and the chip keeps its length.
-pub span-size : (o : Order) (chip : List ℕ) → placeOf o + spanOf o ≤ length chip → length (obeyedSpan o chip) ≡ spanOf o
-unfolding placeOf spanOf obeyedSpan
+pub span-size : (o : Order) (chip : List ℕ) → orderPlace o + orderLength o ≤ length chip → length (obeyedSpan o chip) ≡ orderLength o
+unfolding orderPlace orderLength obeyedSpan
 span-size (erase place count) chip h = erased-length count
 span-size (program place bytes) chip h = cleared-length (span chip place (length bytes)) bytes (span-length chip place (length bytes) h)
 span-size (look place bytes) chip h = span-length chip place (length bytes) h
 
-pub obeyed-length : (o : Order) (chip : List ℕ) → placeOf o + spanOf o ≤ length chip → length (obeyed o chip) ≡ length chip
-unfolding placeOf spanOf obeyedSpan leaves
-obeyed-length (erase place count) chip h = let n = span-size (erase place count) chip h in over-length chip place (erased count) (omega arith)
-obeyed-length (program place bytes) chip h = let n = span-size (program place bytes) chip h in over-length chip place (afterProgram chip place bytes) (omega arith)
+pub obeyed-length : (o : Order) (chip : List ℕ) → orderPlace o + orderLength o ≤ length chip → length (obeyed o chip) ≡ length chip
+unfolding orderPlace orderLength obeyedSpan leaves
+obeyed-length (erase place count) chip h = let n = span-size (erase place count) chip h in overwrite-length chip place (erased count) (omega arith)
+obeyed-length (program place bytes) chip h = let n = span-size (program place bytes) chip h in overwrite-length chip place (afterProgram chip place bytes) (omega arith)
 obeyed-length (look place bytes) chip h = refl
 
 -- a chip whose segment 0 is FF
@@ -138,11 +137,11 @@ Blank chip = (i : ℕ) → i < segment → getD chip i 0 ≡ 0xFF
 
 -- The table's orders: all lie within the chip,
 module _ (kind : Kind) (lawful : Lawful kind) (layout : Layout) (image : List ℕ) (numbers : Numbers layout (length image)) where
-  pub order-within : (phase : ℕ) → phase < 7 → (i : ℕ) → i < count layout (length image) phase → placeOf (orderOf kind layout image phase i) + spanOf (orderOf kind layout image phase i) ≤ layout .length
+  pub order-within : (phase : ℕ) → phase < 7 → (i : ℕ) → i < count layout (length image) phase → orderPlace (orderOf kind layout image phase i) + orderLength (orderOf kind layout image phase i) ≤ layout .«chip_length»
   order-within phase early i h =
-      let l = length-allowed (layout .length) (numbers .long) in
-      let a = area-allowed (layout .length) (layout .update) (layout .area) (numbers .spans) in
-      ⊎-elim (λ low. omega arith) (λ area. omega arith) (in-reach kind lawful layout image numbers i phase early h .0)
+      let l = chip-length-range (layout .«chip_length») (numbers .long) in
+      let a = update-length-range (layout .«chip_length») (layout .«update_place») (layout .«update_length») (numbers .spans) in
+      ⊎-elim (λ low. omega arith) (λ inside. omega arith) (in-reach kind lawful layout image numbers i phase early h .0)
 
   -- a program takes a page at most,
   pub program-most : (phase : ℕ) → phase < 7 → (i : ℕ) → length (programmed (orderOf kind layout image phase i)) ≤ page
@@ -158,32 +157,32 @@ module _ (kind : Kind) (lawful : Lawful kind) (layout : Layout) (image : List �
       (λ i. omega arith)
 
   -- and those before phase 5 leave segment 0 as it was, but for the first, which erases it.
-  pub keeps-blank : (phase : ℕ) → phase < 7 → phase < 5 → (i : ℕ) → i < count layout (length image) phase → (chip : List ℕ) → layout .length ≡ length chip → (phase ≡ 0) ⊎ Blank chip → Blank (obeyed (orderOf kind layout image phase i) chip)
-  unfolding orderOf byPhase obeyedSpan leaves placeOf spanOf count
+  pub keeps-blank : (phase : ℕ) → phase < 7 → phase < 5 → (i : ℕ) → i < count layout (length image) phase → (chip : List ℕ) → layout .«chip_length» ≡ length chip → (phase ≡ 0) ⊎ Blank chip → Blank (obeyed (orderOf kind layout image phase i) chip)
+  unfolding orderOf byPhase obeyedSpan leaves orderPlace orderLength count
   keeps-blank =
-      let l = length-allowed (layout .length) (numbers .long) in
-      let u = update-allowed (layout .length) (layout .update) (numbers .starts) in
-      let a = area-allowed (layout .length) (layout .update) (layout .area) (numbers .spans) in
+      let l = chip-length-range (layout .«chip_length») (numbers .long) in
+      let u = update-place-range (layout .«chip_length») (layout .«update_place») (numbers .starts) in
+      let a = update-length-range (layout .«chip_length») (layout .«update_place») (layout .«update_length») (numbers .spans) in
       let n = numbers-image layout (length image) numbers in
-      phases (λ (phase : ℕ). phase < 5 → (i : ℕ) → i < count layout (length image) phase → (chip : List ℕ) → layout .length ≡ length chip → (phase ≡ 0) ⊎ Blank chip → Blank (obeyed (orderOf kind layout image phase i) chip))
+      phases (λ (phase : ℕ). phase < 5 → (i : ℕ) → i < count layout (length image) phase → (chip : List ℕ) → layout .«chip_length» ≡ length chip → (phase ≡ 0) ⊎ Blank chip → Blank (obeyed (orderOf kind layout image phase i) chip))
       (λ q i h chip e b j m.
       let f = erased-length segment in
-      rw (zero-add j) at (over-inside chip 0 (erased segment) (omega arith) j 0 (omega arith)) ∙ erased-at segment j m)
+      rw (zero-add j) at (overwrite-inside chip 0 (erased segment) (omega arith) j 0 (omega arith)) ∙ erased-at segment j m)
       (λ q i h chip e b. ⊎-elim (λ z. absurd (omega arith)) (λ blank. blank) b)
       (λ q i h chip e b j m.
       let s = area-segments layout (length image) i h in
       let f = erased-length segment in
-      over-before chip (layout .update + segment * i) (erased segment) (omega arith) j 0 (omega arith) ∙ ⊎-elim (λ z. absurd (omega arith)) (λ blank. blank j m) b)
+      overwrite-before chip (layout .«update_place» + segment * i) (erased segment) (omega arith) j 0 (omega arith) ∙ ⊎-elim (λ z. absurd (omega arith)) (λ blank. blank j m) b)
       (λ q i h chip e b j m.
       let s = order-within 3 (omega arith) i h in
-      let f = span-size (program (layout .update + page * i) (pageOf image i)) chip (omega arith) in
-      over-before chip (layout .update + page * i) (afterProgram chip (layout .update + page * i) (pageOf image i)) (omega arith) j 0 (omega arith) ∙ ⊎-elim (λ z. absurd (omega arith)) (λ blank. blank j m) b)
+      let f = span-size (program (layout .«update_place» + page * i) (pageOf image i)) chip (omega arith) in
+      overwrite-before chip (layout .«update_place» + page * i) (afterProgram chip (layout .«update_place» + page * i) (pageOf image i)) (omega arith) j 0 (omega arith) ∙ ⊎-elim (λ z. absurd (omega arith)) (λ blank. blank j m) b)
       (λ q i h chip e b. ⊎-elim (λ z. absurd (omega arith)) (λ blank. blank) b)
       (λ q. absurd (omega arith))
       (λ q. absurd (omega arith))
 
 -- The chip after some of the orders of a run.
-module _ (kind : Kind) (lawful : Lawful kind) (layout : Layout) (image chip : List ℕ) (fit : fits (first layout (length image)) (length image) ≡ true) (long : layout .length ≡ length chip) where
+module _ (kind : Kind) (lawful : Lawful kind) (layout : Layout) (image chip : List ℕ) (fit : fits (first layout (length image)) (length image) ≡ true) (long : layout .«chip_length» ≡ length chip) where
   numbers-of : Numbers layout (length image)
   numbers-of = fits-says (first layout (length image)) (length image) fit .numbers
 
@@ -193,7 +192,7 @@ module _ (kind : Kind) (lawful : Lawful kind) (layout : Layout) (image chip : Li
     index : ℕ
     early : phase < 7
     some : index < count layout (length image) phase
-    place : before layout (length image) phase + index ≡ k
+    place : countBefore layout (length image) phase + index ≡ k
     does : chipAfter kind layout image (suc k) chip ≡ obeyed (orderOf kind layout image phase index) (chipAfter kind layout image k chip)
 
   kth : (k : ℕ) → k < total layout (length image) → Kth k
@@ -202,7 +201,7 @@ module _ (kind : Kind) (lawful : Lawful kind) (layout : Layout) (image chip : Li
       let r = reached layout (length image) fit k (omega arith) in
       let e = runs layout (length image) k state r h in
       let s = running-says state (length image) (r .fit) e in
-      let n : state .length ≡ length image = fits-says state (length image) (r .fit) .same in
+      let n : state .«image_length» ≡ length image = fits-says state (length image) (r .fit) .same in
       let q : suc k ≡ k + 1 = omega arith in
       record {
         phase = state .phase;
@@ -229,8 +228,8 @@ module _ (kind : Kind) (lawful : Lawful kind) (layout : Layout) (image chip : Li
       ∙ n
 
   -- and from the first order to phase 5 segment 0 is FF.
-  early-phase : (phase i p : ℕ) → before layout (length image) phase + i < before layout (length image) (suc p) → phase < suc p
-  unfolding before
+  early-phase : (phase i p : ℕ) → countBefore layout (length image) phase + i < countBefore layout (length image) (suc p) → phase < suc p
+  unfolding countBefore
   early-phase phase i p h =
       ⊎-elim (λ l. l)
       (λ l.
@@ -239,10 +238,10 @@ module _ (kind : Kind) (lawful : Lawful kind) (layout : Layout) (image chip : Li
       absurd (omega arith))
       (below-or-not phase (suc p))
 
-  next-blank : (k : ℕ) → k < before layout (length image) 5 → (k ≡ 0) ⊎ Blank (chipAfter kind layout image k chip) → Blank (chipAfter kind layout image (suc k) chip)
-  unfolding before count byPhase
+  next-blank : (k : ℕ) → k < countBefore layout (length image) 5 → (k ≡ 0) ⊎ Blank (chipAfter kind layout image k chip) → Blank (chipAfter kind layout image (suc k) chip)
+  unfolding countBefore count byPhase
   next-blank k h was =
-      let b : before layout (length image) 5 < total layout (length image) = omega arith in
+      let b : countBefore layout (length image) 5 < total layout (length image) = omega arith in
       let o = kth k (omega arith) in
       let at = o .place in
       let p : o .phase < 5 = early-phase (o .phase) (o .index) 4 (omega arith) in
@@ -251,28 +250,28 @@ module _ (kind : Kind) (lawful : Lawful kind) (layout : Layout) (image chip : Li
       subst Blank (sym (o .does))
       (keeps-blank kind lawful layout image numbers-of (o .phase) (o .early) p (o .index) (o .some) (chipAfter kind layout image k chip) (omega (arith, long)) (⊎-elim (λ z. inl (zeroth z)) inr was))
 
-  pub chip-blank : (k : ℕ) → k < before layout (length image) 5 → Blank (chipAfter kind layout image (suc k) chip)
+  pub chip-blank : (k : ℕ) → k < countBefore layout (length image) 5 → Blank (chipAfter kind layout image (suc k) chip)
   chip-blank zero h = next-blank 0 h (inl refl)
   chip-blank (suc k) h = next-blank (suc k) h (inr (chip-blank k (omega arith)))
 
 -- What the code does to a chip for an operation,
 unfoldable pub doneBy : Operation → List ℕ → List ℕ → List ℕ
-doneBy (Erase place count) bytes chip = within chip place count (erased count)
-doneBy (Program place count) bytes chip = within chip place (length (take count bytes)) (afterProgram chip place (take count bytes))
+doneBy (Erase place count) bytes chip = overwriteInRange chip place count (erased count)
+doneBy (Program place count) bytes chip = overwriteInRange chip place (length (take count bytes)) (afterProgram chip place (take count bytes))
 doneBy (Look place count) bytes chip = chip
 
 -- is what its order asks for.
-pub obeyed-done : (o : Order) (chip : List ℕ) → placeOf o + spanOf o ≤ length chip → obeyed o chip ≡ doneBy (operationOf o) (orderBytes o) chip
-unfolding placeOf spanOf obeyedSpan leaves programmed operationOf doneBy
-obeyed-done (erase place count) chip h = sym (within-over chip place count (erased count) h)
+pub obeyed-done : (o : Order) (chip : List ℕ) → orderPlace o + orderLength o ≤ length chip → obeyed o chip ≡ doneBy (operationOf o) (orderBytes o) chip
+unfolding orderPlace orderLength obeyedSpan leaves programmed operationOf doneBy
+obeyed-done (erase place count) chip h = sym (in-range chip place count (erased count) h)
 obeyed-done (program place bytes) chip h =
     let e : take (length bytes) (orderBytes (program place bytes)) ≡ bytes = take-append-seam bytes (erased (page - length bytes)) in
-    sym (ap (λ (l : List ℕ). within chip place (length l) (afterProgram chip place l)) e ∙ within-over chip place (length bytes) (afterProgram chip place bytes) h)
+    sym (ap (λ (l : List ℕ). overwriteInRange chip place (length l) (afterProgram chip place l)) e ∙ in-range chip place (length bytes) (afterProgram chip place bytes) h)
 obeyed-done (look place bytes) chip h = refl
 
 -- The numbers of an operation are its order's.
-pub erase-span : (o : Order) (place count : ℕ) → operationOf o ≡ Erase place count → placeOf o + spanOf o ≡ place + count
-unfolding placeOf spanOf operationOf
+pub erase-span : (o : Order) (place count : ℕ) → operationOf o ≡ Erase place count → orderPlace o + orderLength o ≡ place + count
+unfolding orderPlace orderLength operationOf
 erase-span (erase place count) p c e = let a : place ≡ p = cc in let b : count ≡ c = cc in omega arith
 erase-span (program place bytes) p c e = let z : _≡_ {A = ℕ} 0 1 = cc in absurd (omega arith)
 erase-span (look place bytes) p c e = let z : _≡_ {A = ℕ} 0 1 = cc in absurd (omega arith)
@@ -289,7 +288,7 @@ module _ (state : State) (image : List ℕ) (fit : fits state (length image) ≡
   numbers-at = let f = fits-says state (length image) fit in subst (Numbers (state .layout)) (f .same) (f .numbers)
 
   -- it lies within the chip,
-  pub current-within : running state ≡ true → placeOf (currentOrder spi state image) + spanOf (currentOrder spi state image) ≤ state .layout .length
+  pub current-within : running state ≡ true → orderPlace (currentOrder spi state image) + orderLength (currentOrder spi state image) ≤ state .layout .«chip_length»
   current-within r =
       rw (current-order spi state image fit r)
       (order-within spi spi-lawful (state .layout) image numbers-at (state .phase) (running-says state (length image) fit r .0) (state .index) (index-at state image fit r))
@@ -301,7 +300,7 @@ module _ (state : State) (image : List ℕ) (fit : fits state (length image) ≡
       (program-most spi spi-lawful (state .layout) image numbers-at (state .phase) (running-says state (length image) fit r .0) (state .index))
 
   -- The code does what it asks for,
-  pub current-done : running state ≡ true → (chip : List ℕ) → state .layout .length ≡ length chip → (operation : Operation) → operationOf (currentOrder spi state image) ≡ operation →
+  pub current-done : running state ≡ true → (chip : List ℕ) → state .layout .«chip_length» ≡ length chip → (operation : Operation) → operationOf (currentOrder spi state image) ≡ operation →
       doneBy operation (orderBytes (currentOrder spi state image)) chip ≡ obeyed (currentOrder spi state image) chip
   current-done r chip long operation e =
       let w = current-within r in

@@ -5,17 +5,18 @@ use mathlib.Core.Logic.{inl, inr}
 use mathlib.Core.List.{List}
 use native.Mathlib.Omega.{arith}
 use lib.ListN.{length, drop, length-take, length-drop}
-use Rattle.chip.specs.Layout.{page}
-use Rattle.chip.specs.Kind.{Kind, Lawful}
-use Rattle.chip.specs.declared.kind.Layout.{Layout}
+use Rattle.kind.specs.Layout.{page}
+use Rattle.kind.specs.Kind.{Kind}
+use Rattle.chip.specs.Chip.{Lawful}
+use Rattle.effects.specs.Types.{Layout}
 use Rattle.flash.proofs.Laws.{erased-length}
-use Rattle.chip.proofs.Laws.{update-allowed}
-use Rattle.comparison.proofs.Laws.{filled-length}
+use Rattle.kind.proofs.Laws.{update-place-range}
+use Rattle.comparison.proofs.Laws.{padded-length}
 use Rattle.orders.specs.Table.{byPhase, count}
 use Rattle.orders.specs.Orders.{pageOf, orderOf}
 use Rattle.orders.proofs.Laws.{phases, area-segments, image-pages, area-pages}
 use Rattle.updater.proofs.Laws.{Numbers, numbers-image}
-use Rattle.effects.specs.Effects.{placeOf, spanOf, InReach, OnePage}
+use Rattle.effects.specs.Effects.{orderPlace, orderLength, InReach, OnePage}
 
 -- how long a page of an image is
 page-most : (image : List ℕ) (i : ℕ) → page * i < length image → (1 ≤ length (pageOf image i)) × (length (pageOf image i) ≤ page) × (page * i + length (pageOf image i) ≤ length image)
@@ -27,10 +28,10 @@ page-most image i h =
 module _ (kind : Kind) (lawful : Lawful kind) where
   -- The table's orders, phase by phase.
   pub in-reach : (layout : Layout) (image : List ℕ) → Numbers layout (length image) → (i phase : ℕ) → phase < 7 → i < count layout (length image) phase →
-      InReach layout (placeOf (orderOf kind layout image phase i)) (spanOf (orderOf kind layout image phase i)) × OnePage (orderOf kind layout image phase i)
-  unfolding count byPhase orderOf placeOf spanOf OnePage
+      InReach layout (orderPlace (orderOf kind layout image phase i)) (orderLength (orderOf kind layout image phase i)) × OnePage (orderOf kind layout image phase i)
+  unfolding count byPhase orderOf orderPlace orderLength OnePage
   in-reach layout image numbers i =
-      phases (λ (phase : ℕ). i < count layout (length image) phase → InReach layout (placeOf (orderOf kind layout image phase i)) (spanOf (orderOf kind layout image phase i)) × OnePage (orderOf kind layout image phase i))
+      phases (λ (phase : ℕ). i < count layout (length image) phase → InReach layout (orderPlace (orderOf kind layout image phase i)) (orderLength (orderOf kind layout image phase i)) × OnePage (orderOf kind layout image phase i))
       (λ h. (inl (omega arith), tt))
       (λ h. (inl (let b : i < 16 = h in let e = erased-length page in omega arith), tt))
       (λ h. (inr (omega arith, (let s = area-segments layout (length image) i h in omega arith)), tt))
@@ -39,7 +40,7 @@ module _ (kind : Kind) (lawful : Lawful kind) where
         inr (
           omega arith,
           (let s = area-pages layout (length image) i h in
-              let f = filled-length page (pageOf image i) (let t = length-take page (drop (page * i) image) in omega arith) in
+              let f = padded-length page (pageOf image i) (let t = length-take page (drop (page * i) image) in omega arith) in
               omega arith),
         ),
         tt,
@@ -47,16 +48,16 @@ module _ (kind : Kind) (lawful : Lawful kind) where
       (λ h. (inl (omega (arith, lawful .four)), (omega (arith, lawful .four), rw (lawful .four) refl)))
       (λ h. (inl (omega (arith, lawful .four)), tt))
     where
-      few : i < count layout (length image) 3 → (1 ≤ length (pageOf image i)) × (length (pageOf image i) ≤ page) × (page * i + length (pageOf image i) ≤ layout .area)
+      few : i < count layout (length image) 3 → (1 ≤ length (pageOf image i)) × (length (pageOf image i) ≤ page) × (page * i + length (pageOf image i) ≤ layout .«update_length»)
       few h =
           let b = page-most image i (image-pages layout (length image) i h) in
           let n = numbers-image layout (length image) numbers in
           (b .0, b .1, omega arith)
 
-      in-page : i < count layout (length image) 3 → (layout .update + page * i + length (pageOf image i) - 1) / page ≡ (layout .update + page * i) / page
+      in-page : i < count layout (length image) 3 → (layout .«update_place» + page * i + length (pageOf image i) - 1) / page ≡ (layout .«update_place» + page * i) / page
       in-page h =
           let b = few h in
-          let u = update-allowed (layout .length) (layout .update) (numbers .starts) in
-          let q : ℕ = layout .update / page in
-          let r : layout .update ≡ page * q = omega arith in
+          let u = update-place-range (layout .«chip_length») (layout .«update_place») (numbers .starts) in
+          let q : ℕ = layout .«update_place» / page in
+          let r : layout .«update_place» ≡ page * q = omega arith in
           omega arith

@@ -4,26 +4,26 @@ use mathlib.Core.Path.{_≡_}
 use mathlib.Core.Logic.{_⊎_}
 use mathlib.Core.List.{List, [], _∷_}
 use lib.ListN.{length, getD}
-use Rattle.chip.specs.Layout.{page, segment}
-use Rattle.chip.specs.declared.kind.Layout.{Layout}
-use Rattle.flash.specs.Flash.{span, over, erased, afterProgram}
+use Rattle.kind.specs.Layout.{page, segment}
+use Rattle.effects.specs.Types.{Layout}
+use Rattle.flash.specs.Flash.{span, overwrite, erased, afterProgram}
 use Rattle.orders.specs.Orders.{Order, erase, program, look}
 
 -- the first byte of an order's span
-unfoldable pub placeOf : Order → ℕ
-placeOf (erase place count) = place
-placeOf (program place bytes) = place
-placeOf (look place bytes) = place
+unfoldable pub orderPlace : Order → ℕ
+orderPlace (erase place count) = place
+orderPlace (program place bytes) = place
+orderPlace (look place bytes) = place
 
 -- how many bytes an order's span has
-unfoldable pub spanOf : Order → ℕ
-spanOf (erase place count) = count
-spanOf (program place bytes) = length bytes
-spanOf (look place bytes) = length bytes
+unfoldable pub orderLength : Order → ℕ
+orderLength (erase place count) = count
+orderLength (program place bytes) = length bytes
+orderLength (look place bytes) = length bytes
 
 -- A span lies in segment 0 or in the update area.
 abbrev pub InReach : Layout → ℕ → ℕ → Type 0
-InReach layout place count = (place + count ≤ segment) ⊎ ((layout .update ≤ place) × (place + count ≤ layout .update + layout .area))
+InReach layout place count = (place + count ≤ segment) ⊎ ((layout .«update_place» ≤ place) × (place + count ≤ layout .«update_place» + layout .«update_length»))
 
 -- A program has a byte at least and stays inside one page.
 unfoldable pub OnePage : Order → Type 0
@@ -39,8 +39,8 @@ obeyedSpan (look place bytes) chip = span chip place (length bytes)
 
 -- The chip when these bytes stand in an order's span afterwards; outside it every byte stays. A look changes nothing.
 unfoldable pub leaves : Order → List ℕ → List ℕ → List ℕ
-leaves (erase place count) chip left = over chip place left
-leaves (program place bytes) chip left = over chip place left
+leaves (erase place count) chip left = overwrite chip place left
+leaves (program place bytes) chip left = overwrite chip place left
 leaves (look place bytes) chip left = chip
 
 -- a chip that has obeyed an order, and one that has obeyed a list of them

@@ -1,3 +1,4 @@
 -- What the contracts of this crate say: what an order does to a chip, and where a run is after so many of them.
+pub mod Types
 pub mod Effects
 pub mod Progress

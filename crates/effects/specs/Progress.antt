@@ -2,12 +2,11 @@
 use Prim.Native.Nat.{ℕ, zero, suc, min}
 use mathlib.Core.List.{List}
 use lib.ListN.{length, take}
-use Rattle.chip.specs.Kind.{Kind}
-use Rattle.chip.specs.declared.kind.Layout.{Layout}
+use Rattle.kind.specs.Kind.{Kind}
+use Rattle.effects.specs.Types.{Layout, State}
 use Rattle.orders.specs.Table.{total}
 use Rattle.orders.specs.Orders.{orders}
-use Rattle.updater.specs.Run.{first, after}
-use Rattle.updater.specs.declared.run.State.{State}
+use Rattle.updater.specs.State.{first, after}
 use Rattle.effects.specs.Effects.{obeyedAll}
 
 -- The first k orders are obeyed in full. The chip that question 10 calls old is the one after them.

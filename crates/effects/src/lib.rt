@@ -4,23 +4,23 @@ ghost use Prim.Native.Nat.{min};
 ghost use mathlib.Core.Path.{_≡_};
 ghost use mathlib.Core.Bool.{true};
 ghost use lib.ListN.{length};
-ghost use Rattle.chip.specs.Kind.{spi};
+ghost use Rattle.kind.specs.Spi.{spi};
 ghost use Rattle.orders.specs.Table.{total};
-ghost use Rattle.updater.specs.Run.{first, running, fits, currentOrder};
+ghost use Rattle.updater.specs.State.{first, running, fits, currentOrder};
 ghost use Rattle.effects.specs.Effects.{obeyed};
 ghost use Rattle.effects.specs.Progress.{chipAfter, stateAfter};
 use flash::erase;
 use flash::program;
 use orders::Operation;
-use updater::current::after_order;
-use updater::current::current_bytes;
-use updater::current::current_operation;
-use updater::run::State;
+use updater::state::State;
+use updater::state::after_order;
+use updater::state::current_bytes;
+use updater::state::current_operation;
 
 // The state after so many orders, or at the run's end.
 pub fn state_after(begun: State, cut: usize) -> State
-    requires { ⌜ (begun ≡ first (begun .layout) (begun .length)) × (fits begun (begun .length) ≡ true) ⌝ }
-    ensures { λ r. ⌜ r ≡ stateAfter (min cut (total (begun .layout) (begun .length))) begun ⌝ }
+    requires { ⌜ (begun ≡ first (begun .layout) (begun .«image_length»)) × (fits begun (begun .«image_length») ≡ true) ⌝ }
+    ensures { λ r. ⌜ r ≡ stateAfter (min cut (total (begun .layout) (begun .«image_length»))) begun ⌝ }
 {
     let mut state = begun;
     let mut i = 0;
@@ -36,7 +36,7 @@ pub fn state_after(begun: State, cut: usize) -> State
 
 // The chip obeys the current order.
 fn obey_order(chip: &mut [u8], state: State, image: &[u8])
-    requires { ⌜ (fits state (length (now image)) ≡ true) × (running state ≡ true) × (state .layout .length ≡ length (now chip)) ⌝ }
+    requires { ⌜ (fits state (length (now image)) ≡ true) × (running state ≡ true) × (state .layout .«chip_length» ≡ length (now chip)) ⌝ }
     ensures { λ r. ⌜ now (chip .exit) ≡ obeyed (currentOrder spi state (now (image .entry))) (now (chip .entry)) ⌝ }
 {
     let operation = current_operation(state);
@@ -57,7 +57,7 @@ fn obey_order(chip: &mut [u8], state: State, image: &[u8])
 
 // The chip obeys so many orders, or all of the run.
 pub fn obey_orders(chip: &mut [u8], begun: State, image: &[u8], cut: usize)
-    requires { ⌜ (begun ≡ first (begun .layout) (length (now image))) × (fits begun (length (now image)) ≡ true) × (begun .layout .length ≡ length (now chip)) ⌝ }
+    requires { ⌜ (begun ≡ first (begun .layout) (length (now image))) × (fits begun (length (now image)) ≡ true) × (begun .layout .«chip_length» ≡ length (now chip)) ⌝ }
     ensures { λ r. ⌜ now (chip .exit) ≡ chipAfter spi (begun .layout) (now (image .entry)) cut (now (chip .entry)) ⌝ }
 {
     let mut state = begun;

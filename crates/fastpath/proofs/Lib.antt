@@ -1,1 +1,1 @@
-pub mod PassLaws
+pub mod SkipLaws

@@ -1,2 +1,3 @@
--- What passing whole packets keeps. No promise of a public call rests on it.
-pub mod Passing
+-- What skipping whole packets keeps. No promise of a public call rests on it.
+pub mod Types
+pub mod Fastpath

@@ -1,29 +1,29 @@
 // Whole packets passed at once, where packets are small. For the crate above it alone: its functions ask their
-// caller for a walk that goes on.
+// caller for a scanner that goes on.
 ghost use mathlib.Core.Path.{_≡_};
 ghost use mathlib.Core.Bool.{true};
 ghost use Prim.Native.Nat.{ℕ, _+_, _<_, _≤_};
 ghost use lib.ListN.{length, getD, drop};
-ghost use Rattle.framing.specs.Words.{words, wordAt};
+ghost use Rattle.framing.specs.Words.{words};
+ghost use Rattle.framing.specs.Internal.{wordAt};
 ghost use Rattle.packets.specs.Header.{headOf, effectOf};
-ghost use Rattle.packets.specs.declared.header.Effect.the-variants.{GoesOn};
-ghost use Rattle.packets.specs.declared.header.Header.the-variants.{Type1};
-ghost use Rattle.scanner.specs.Walk.{AtHeader};
-ghost use Rattle.fastpath.specs.Passing.{Begins, Past};
-use base::smaller;
+ghost use Rattle.fastpath.specs.Types.{GoesOn, Type1};
+ghost use Rattle.scanner.specs.Scan.{AtHeader};
+ghost use Rattle.fastpath.specs.Fastpath.{PacketBegins, SkipKeeps};
+use base::min;
 use framing::words::word_at;
 use framing::words::words_from;
 use packets::header::NOP;
 use packets::header::is_type1_write;
 use packets::header::is_type2_write;
-use scanner::walk::Walk;
-use scanner::walk::after_header;
-use scanner::walk::after_packet;
-use scanner::walk::quiet;
+use scanner::scan::Scanner;
+use scanner::scan::after_header;
+use scanner::scan::after_packet;
+use scanner::scan::count_plain_words;
 
 // Whether all of a packet's data words can be passed at once: there are some, no more than `room`, and
 // none of them ends the reading.
-fn may_pass(s: &[u8], at: usize, register: u32, count: usize, room: usize) -> bool
+fn may_skip(s: &[u8], at: usize, register: u32, count: usize, room: usize) -> bool
     requires { ⌜ (count ≤ room → count ≤ length (words (drop at (now s)))) ⌝ }
     ensures { λ r. ⌜ (r ≡ true → (1 ≤ count) × (count ≤ room) × ((i : ℕ) → i < count → effectOf register (getD (words (drop at (now (s .entry)))) i 0) ≡ GoesOn)) ⌝ }
 {
@@ -33,26 +33,26 @@ fn may_pass(s: &[u8], at: usize, register: u32, count: usize, room: usize) -> bo
     if room < count {
         return false;
     }
-    quiet(s, at, register, count) == count
+    count_plain_words(s, at, register, count) == count
 }
 
-// The walk after the packet of a header at its place; or as it was, where the packet cannot be passed
+// The scanner after the packet of a header at its place; or as it was, where the packet cannot be skipped
 // at once.
-fn past_data(s: &[u8], w: Walk, register: u32, count: usize, room: usize) -> Walk
-    requires { ⌜ AtHeader w × (w .at + 4 ≤ length (now s)) × (1 ≤ count → Begins (now s) w register count) × (room ≤ w .skip) × (count ≤ room → count ≤ length (words (drop (w .at + 4) (now s)))) ⌝ }
-    ensures { λ r. ⌜ Past (now (s .entry)) w r ⌝ }
+fn skip_data(s: &[u8], w: Scanner, register: u32, count: usize, room: usize) -> Scanner
+    requires { ⌜ AtHeader w × (w .at + 4 ≤ length (now s)) × (1 ≤ count → PacketBegins (now s) w register count) × (room ≤ w .skip) × (count ≤ room → count ≤ length (words (drop (w .at + 4) (now s)))) ⌝ }
+    ensures { λ r. ⌜ SkipKeeps (now (s .entry)) w r ⌝ }
 {
-    if !may_pass(s, w.at + 4, register, count, room) {
+    if !may_skip(s, w.at + 4, register, count, room) {
         return w;
     }
     after_packet(s, after_header(w, register, count, true))
 }
 
-// The walk after a type 1 header with no data words, and after the type 2 packet that it opens `register`
+// The scanner after a type 1 header with no data words, and after the type 2 packet that it opens `register`
 // to, where one follows that can be passed at once.
-fn past_opening(s: &[u8], w: Walk, register: u32) -> Walk
+fn skip_opening(s: &[u8], w: Scanner, register: u32) -> Scanner
     requires { ⌜ AtHeader w × (w .at + 8 ≤ length (now s)) × (headOf (wordAt (now s) (w .at)) ≡ Type1 register 0) ⌝ }
-    ensures { λ r. ⌜ Past (now (s .entry)) w r ⌝ }
+    ensures { λ r. ⌜ SkipKeeps (now (s .entry)) w r ⌝ }
 {
     let opened = after_header(w, register, 0, true);
     let word = word_at(s, opened.at);
@@ -60,15 +60,15 @@ fn past_opening(s: &[u8], w: Walk, register: u32) -> Walk
         return opened;
     }
     let count = (word % 0x0800_0000) as usize;
-    let room = smaller(opened.skip, words_from(s, opened.at + 4));
-    past_data(s, opened, register, count, room)
+    let room = min(opened.skip, words_from(s, opened.at + 4));
+    skip_data(s, opened, register, count, room)
 }
 
-// The walk after the packet whose header is `word`, the word at its place; or as it was. Packets of one
+// The scanner after the packet whose header is `word`, the word at its place; or as it was. Packets of one
 // and of two data words are told apart, so that there the next place does not wait for the count.
-fn past_packet(s: &[u8], w: Walk, word: u32) -> Walk
+fn skip_packet(s: &[u8], w: Scanner, word: u32) -> Scanner
     requires { ⌜ AtHeader w × (w .at + 8 ≤ length (now s)) × (word ≡ wordAt (now s) (w .at)) ⌝ }
-    ensures { λ r. ⌜ Past (now (s .entry)) w r ⌝ }
+    ensures { λ r. ⌜ SkipKeeps (now (s .entry)) w r ⌝ }
 {
     if word == NOP {
         return after_header(w, 0, 0, false);
@@ -79,23 +79,23 @@ fn past_packet(s: &[u8], w: Walk, word: u32) -> Walk
     let register = word / 0x2000 % 32;
     let count = word % 0x0800;
     if count == 0 {
-        return past_opening(s, w, register);
+        return skip_opening(s, w, register);
     }
     if count == 1 {
-        return past_data(s, w, register, 1, w.skip);
+        return skip_data(s, w, register, 1, w.skip);
     }
-    let room = smaller(w.skip, words_from(s, w.at + 4));
+    let room = min(w.skip, words_from(s, w.at + 4));
     if count == 2 {
-        return past_data(s, w, register, 2, room);
+        return skip_data(s, w, register, 2, room);
     }
-    past_data(s, w, register, count as usize, room)
+    skip_data(s, w, register, count as usize, room)
 }
 
-// The walk after as many whole packets and no-operations as can be passed. It goes by a word at a
+// The scanner after as many whole packets and no-operations as can be skipped. It goes by a word at a
 // time that is loaded ahead, and so spares `follow` its steps where packets are small.
-pub fn past_packets(s: &[u8], start: Walk) -> Walk
+pub fn skip_packets(s: &[u8], start: Scanner) -> Scanner
     requires { ⌜ AtHeader start ⌝ }
-    ensures { λ r. ⌜ Past (now (s .entry)) start r ⌝ }
+    ensures { λ r. ⌜ SkipKeeps (now (s .entry)) start r ⌝ }
 {
     let mut w = start;
     if words_from(s, w.at) < 2 {
@@ -104,7 +104,7 @@ pub fn past_packets(s: &[u8], start: Walk) -> Walk
     let mut word = word_at(s, w.at);
     loop {
         let at = w.at;
-        w = past_packet(s, w, word);
+        w = skip_packet(s, w, word);
         if w.at == at {
             return w;
         }

@@ -6,18 +6,11 @@ use mathlib.Core.Bool.{true, false}
 use mathlib.Core.List.{List, [], _∷_, _++_}
 use lib.Dec.{ltb}
 use lib.ListN.{getD}
--- the capital hexadecimal digits
-unfoldable pub use Rattle.digits.specs.Digit.{digits}
 
 -- the bytes of a text
 unfoldable pub ascii : String → List ℕ
 ascii noText = []
 ascii (c then text) = code c ∷ ascii text
-
--- so many capital hexadecimal digits of a number
-unfoldable pub hexadecimal : ℕ → ℕ → List ℕ
-hexadecimal zero n = []
-hexadecimal (suc count) n = hexadecimal count (n / 16) ++ getD digits (n % 16) 0 ∷ []
 
 -- a number in decimal, given a bound on the number of its digits
 unfoldable pub decimalIn : ℕ → ℕ → List ℕ

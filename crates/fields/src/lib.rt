@@ -3,9 +3,11 @@
 ghost use mathlib.Core.Path.{_≡_};
 ghost use Prim.Native.Nat.{_+_, _<_, _≤_};
 ghost use mathlib.Core.List.{[], _∷_, _++_};
-ghost use lib.ListN.{length, getD};
+ghost use lib.ListN.{length};
 ghost use lib.Seq.{paste};
-ghost use Rattle.fields.specs.Fields.{digits, hexadecimal, decimal};
+ghost use Rattle.fields.specs.Fields.{decimal};
+ghost use Rattle.digits.specs.Digit.{hexadecimal};
+use digits::digit::digit_character;
 
 // Copies a text to `at`.
 pub fn put(out: &mut [u8], at: usize, text: &[u8])
@@ -13,17 +15,6 @@ pub fn put(out: &mut [u8], at: usize, text: &[u8])
     ensures { λ r. ⌜ now (out .exit) ≡ paste (now (out .entry)) at (now (text .entry)) (length (now (text .entry))) ⌝ }
 {
     bytes::copy(text, &mut out[at..]);
-}
-
-// The character of a hexadecimal digit.
-fn digit(value: usize) -> u8
-    requires { ⌜ value < 16 ⌝ }
-    ensures { λ r. ⌜ r ≡ getD digits value 0 ⌝ }
-{
-    if value < 10 {
-        return (48 + value) as u8;
-    }
-    (55 + value) as u8
 }
 
 // So many hexadecimal digits of a number, at `at`. A number's digits come from its last to its first, so the
@@ -37,7 +28,7 @@ fn put_hexadecimal(out: &mut [u8], at: usize, count: usize, value: usize)
     }
     let before = count - 1;
     put_hexadecimal(out, at, before, value / 16);
-    out[at + before] = digit(value % 16);
+    out[at + before] = digit_character(value % 16);
 }
 
 // So many hexadecimal digits of a number, at `at`, and the byte after them.

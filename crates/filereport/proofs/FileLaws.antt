@@ -6,56 +6,57 @@ use mathlib.Core.List.{List, [], append-nil}
 use native.Mathlib.Omega.{arith}
 use borrow.Author.Tests.{le-leb, lt-leb}
 use lib.ListN.{length, drop, drop-of-length-le}
+use Rattle.kind.specs.Spi.{spi}
 use Rattle.base.specs.Question.{ask}
-use Rattle.bootreader.specs.Answers.{lengthAllowed}
+use Rattle.kind.specs.Layout.{chipLengthAllowed}
 use Rattle.mcs.specs.Reading.{Holds, Refused, readText}
-use Rattle.chip.specs.declared.kind.Layout.{Layout}
+use Rattle.filereport.specs.Types.{Layout, BuildAnswer, Built, BuildRefused}
 use Rattle.builder.specs.Builder.{builtChip, buildAnswer, outputOf, buildOutput}
-use Rattle.builder.specs.declared.BuildAnswer.{BuildAnswer}
-use Rattle.builder.specs.declared.BuildAnswer.the-variants.{Built, Refused as NotBuilt}
-use Rattle.base.proofs.Laws.{asked-yes}
+use Rattle.base.proofs.Laws.{asked-yes, front-fits}
 use Rattle.builder.proofs.Laws.{golden-room, built-length}
-use Rattle.reportlines.specs.Lines.{refusedLine}
-use Rattle.report.specs.Chips.{chipReport}
-use Rattle.filereport.specs.Files.{reportLayout, onBuilt, builtReport, onReading, fileReport}
-use Rattle.report.specs.Answers.{written, filledBy, chipAnswer, chipOutput}
+use Rattle.reportlines.specs.Reportlines.{refusedLine}
+use Rattle.report.specs.Boot.{chipReport, chipAnswer, chipOutput}
+use Rattle.filereport.specs.Filereport.{reportLayout, onBuilt, builtReport, onReading, fileReport}
+use Rattle.report.specs.Refusal.{written}
+use Rattle.base.specs.Output.{frontFilled}
 
-usual-length : lengthAllowed 32768 ≡ true
-unfolding lengthAllowed ask
+usual-length : chipLengthAllowed 32768 ≡ true
+unfolding chipLengthAllowed ask
 usual-length = refl
 
 -- The report of a chip of 32,768 bytes.
-shows-chip : (chip : List ℕ) → length chip ≡ 32768 → (room : ℕ) (out : List ℕ) → (chipAnswer chip room ≡ written (chipReport chip) room) × (chipOutput chip out ≡ filledBy (chipReport chip) out)
+shows-chip : (chip : List ℕ) → length chip ≡ 32768 → (room : ℕ) (out : List ℕ) → (chipAnswer spi chip room ≡ written (chipReport spi chip) room) × (chipOutput spi chip out ≡ frontFilled (chipReport spi chip) out)
 unfolding chipAnswer chipOutput
-shows-chip chip long room out = (asked-yes (lengthAllowed (length chip)) _ _ allowed, asked-yes (lengthAllowed (length chip)) _ _ allowed)
+shows-chip chip long room out = (asked-yes (chipLengthAllowed (length chip)) _ _ allowed, asked-yes (chipLengthAllowed (length chip)) _ _ allowed)
   where
-    allowed : lengthAllowed (length chip) ≡ true
-    allowed = ap lengthAllowed long ∙ usual-length
+    allowed : chipLengthAllowed (length chip) ≡ true
+    allowed = ap chipLengthAllowed long ∙ usual-length
 
 -- A buffer of the chip's length that was lent to the builder holds the built chip and no more. (Said of any layout: of one with numbers, the erased chip would be written out.)
-holds-built : (layout : Layout) (golden buffer : List ℕ) → length buffer ≡ layout .length → buildAnswer layout golden (length buffer) ≡ Built →
-    (buildOutput layout golden buffer ≡ builtChip layout golden) × (length (builtChip layout golden) ≡ layout .length)
+holds-built : (layout : Layout) (golden buffer : List ℕ) → length buffer ≡ layout .«chip_length» → buildAnswer spi layout golden (length buffer) ≡ Built →
+    (buildOutput spi layout golden buffer ≡ builtChip spi layout golden) × (length (builtChip spi layout golden) ≡ layout .«chip_length»)
 unfolding outputOf
 holds-built layout golden buffer long e =
-    let n : length (builtChip layout golden) ≡ layout .length = built-length layout golden (golden-room layout golden (length buffer) e) in
-    let none : drop (0 + length (builtChip layout golden)) buffer ≡ [] = drop-of-length-le buffer {i = 0 + length (builtChip layout golden)} (omega arith) in
-    (ap (λ (a : BuildAnswer). outputOf a layout golden buffer) e ∙ rw none (append-nil (builtChip layout golden)), n)
+    let n : length (builtChip spi layout golden) ≡ layout .«chip_length» = built-length layout golden (golden-room layout golden (length buffer) e) in
+    let none : drop (length (builtChip spi layout golden)) buffer ≡ [] = drop-of-length-le buffer {i = length (builtChip spi layout golden)} (omega arith) in
+    let front = front-fits (builtChip spi layout golden) buffer (omega arith) in
+    (ap (λ (a : BuildAnswer). outputOf spi a layout golden buffer) e ∙ front ∙ rw none (append-nil (builtChip spi layout golden)), n)
 
 module _ (golden buffer : List ℕ) (long : length buffer ≡ 32768) where
   -- Its report is the golden image's,
-  pub shows-built : buildAnswer reportLayout golden (length buffer) ≡ Built → (room : ℕ) (out : List ℕ) →
-      (chipAnswer (buildOutput reportLayout golden buffer) room ≡ written (builtReport golden) room) × (chipOutput (buildOutput reportLayout golden buffer) out ≡ filledBy (builtReport golden) out)
+  pub shows-built : buildAnswer spi reportLayout golden (length buffer) ≡ Built → (room : ℕ) (out : List ℕ) →
+      (chipAnswer spi (buildOutput spi reportLayout golden buffer) room ≡ written (builtReport golden) room) × (chipOutput spi (buildOutput spi reportLayout golden buffer) out ≡ frontFilled (builtReport golden) out)
   unfolding onBuilt
   shows-built e room out =
       let held = holds-built reportLayout golden buffer long e in
-      let same : builtReport golden ≡ chipReport (builtChip reportLayout golden) = ap (onBuilt golden) (rw long at e) in
-      let shown = shows-chip (builtChip reportLayout golden) (held .1) room out in (
-        ap (λ (chip : List ℕ). chipAnswer chip room) (held .0) ∙ shown .0 ∙ ap (λ (l : List ℕ). written l room) (sym same),
-        ap (λ (chip : List ℕ). chipOutput chip out) (held .0) ∙ shown .1 ∙ ap (λ (l : List ℕ). filledBy l out) (sym same),
+      let same : builtReport golden ≡ chipReport spi (builtChip spi reportLayout golden) = ap (onBuilt golden) (rw long at e) in
+      let shown = shows-chip (builtChip spi reportLayout golden) (held .1) room out in (
+        ap (λ (chip : List ℕ). chipAnswer spi chip room) (held .0) ∙ shown .0 ∙ ap (λ (l : List ℕ). written l room) (sym same),
+        ap (λ (chip : List ℕ). chipOutput spi chip out) (held .0) ∙ shown .1 ∙ ap (λ (l : List ℕ). frontFilled l out) (sym same),
       )
 
   -- or the builder's refusal is the report.
-  pub shows-refused : (number place : ℕ) → buildAnswer reportLayout golden (length buffer) ≡ NotBuilt number place → builtReport golden ≡ refusedLine number place
+  pub shows-refused : (number place : ℕ) → buildAnswer spi reportLayout golden (length buffer) ≡ BuildRefused number place → builtReport golden ≡ refusedLine number place
   unfolding onBuilt
   shows-refused number place e = ap (onBuilt golden) (rw long at e)
 

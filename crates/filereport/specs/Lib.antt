@@ -1,2 +1,3 @@
 -- What the contract of the public call says: the report of an image file.
-pub mod Files
+pub mod Types
+pub mod Filereport

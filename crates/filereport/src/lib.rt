@@ -2,11 +2,12 @@
 // what that chip loads.
 ghost use mathlib.Core.Path.{_≡_};
 ghost use lib.ListN.{length};
-ghost use Rattle.report.specs.Answers.{written, filledBy};
-ghost use Rattle.filereport.specs.Files.{builtReport, fileAnswer, fileOutput};
+ghost use Rattle.report.specs.Refusal.{written};
+ghost use Rattle.base.specs.Output.{frontFilled};
+ghost use Rattle.filereport.specs.Filereport.{builtReport, fileAnswer, fileOutput};
 use builder::BuildAnswer;
 use builder::build;
-use chip::kind::Spi;
+use kind::spi::Spi;
 use mcs::reader::ReadAnswer;
 use mcs::reader::read;
 use report::boot;
@@ -26,7 +27,7 @@ fn buffer() -> [u8; 32768]
 // The report of a chip built with this golden image, or of the refusal to build one.
 fn built_report(golden: &[u8], out: &mut [u8]) -> ReportAnswer
     ensures answer { λ r. ⌜ r ≡ written (builtReport (now (golden .entry))) (length (now (out .entry))) ⌝ }
-    ensures output { λ r. ⌜ now (out .exit) ≡ filledBy (builtReport (now (golden .entry))) (now (out .entry)) ⌝ }
+    ensures output { λ r. ⌜ now (out .exit) ≡ frontFilled (builtReport (now (golden .entry))) (now (out .entry)) ⌝ }
 {
     let mut chip = buffer();
     let built = build(Spi::layout(32_768, 16_384, 16_384), golden, &mut chip);
@@ -43,7 +44,7 @@ pub fn report(text: &[u8], out: &mut [u8]) -> ReportAnswer
     ensures output { λ r. ⌜ now (out .exit) ≡ fileOutput (now (text .entry)) (now (out .entry)) ⌝ }
 {
     if LONGEST < text.len() {
-        return refusal::report(19, 0, out);
+        return refusal::report(base::refusal::NO_ROOM, 0, out);
     }
     let mut image = buffer();
     let held = read(text, &mut image);

@@ -8,7 +8,7 @@ use lib.Bits.{bitAnd}
 use lib.ListN.{length, getD, take, drop, length-append, length-replicate, getD-replicate, length-drop, drop-of-length-le, List·getD-append}
 use lib.Seq.{paste, take-all, take-length, drop-drop, length-take-le, getD-take, getD-drop, getD-append-add, take-append-le, drop-append-le}
 use Rattle.base.specs.Question.{ask}
-use Rattle.flash.specs.Flash.{erased, span, over, within, cleared}
+use Rattle.flash.specs.Flash.{erased, span, overwrite, overwriteInRange, cleared}
 
 pub span-at : (chip : List ℕ) (place count i : ℕ) → i < count → getD (span chip place count) i 0 ≡ getD chip (place + i) 0
 span-at chip place count i h = getD-take count (drop place chip) i 0 h ∙ getD-drop place chip i 0
@@ -26,47 +26,47 @@ module _ (chip : List ℕ) (place : ℕ) (bytes : List ℕ) (fits : place + leng
   front : length (take place chip) ≡ place
   front = length-take-le place chip (omega arith)
 
-  pub over-length : length (over chip place bytes) ≡ length chip
-  over-length =
+  pub overwrite-length : length (overwrite chip place bytes) ≡ length chip
+  overwrite-length =
       length-append (take place chip) (bytes ++ drop (place + length bytes) chip)
       ∙ rw (front, length-append bytes (drop (place + length bytes) chip), length-drop (place + length bytes) chip) (omega arith)
 
-  pub over-before : (i d : ℕ) → i < place → getD (over chip place bytes) i d ≡ getD chip i d
-  over-before i d h =
+  pub overwrite-before : (i d : ℕ) → i < place → getD (overwrite chip place bytes) i d ≡ getD chip i d
+  overwrite-before i d h =
       List·getD-append (take place chip) (bytes ++ drop (place + length bytes) chip) d i (rw front h)
       ∙ getD-take place chip i d h
 
-  rest-at : (i d : ℕ) → getD (over chip place bytes) (place + i) d ≡ getD (bytes ++ drop (place + length bytes) chip) i d
+  rest-at : (i d : ℕ) → getD (overwrite chip place bytes) (place + i) d ≡ getD (bytes ++ drop (place + length bytes) chip) i d
   rest-at i d = rw front at (getD-append-add (take place chip) (bytes ++ drop (place + length bytes) chip) i d)
 
-  pub over-inside : (i d : ℕ) → i < length bytes → getD (over chip place bytes) (place + i) d ≡ getD bytes i d
-  over-inside i d h = rest-at i d ∙ List·getD-append bytes (drop (place + length bytes) chip) d i h
+  pub overwrite-inside : (i d : ℕ) → i < length bytes → getD (overwrite chip place bytes) (place + i) d ≡ getD bytes i d
+  overwrite-inside i d h = rest-at i d ∙ List·getD-append bytes (drop (place + length bytes) chip) d i h
 
-  pub over-after : (i d : ℕ) → place + length bytes ≤ i → getD (over chip place bytes) i d ≡ getD chip i d
-  over-after i d h =
+  pub overwrite-after : (i d : ℕ) → place + length bytes ≤ i → getD (overwrite chip place bytes) i d ≡ getD chip i d
+  overwrite-after i d h =
       let k : ℕ = i - place - length bytes in
       let e : i ≡ place + (length bytes + k) = omega arith in
       let f : place + length bytes + k ≡ place + (length bytes + k) = omega arith in
-      ap (λ (n : ℕ). getD (over chip place bytes) n d) e
+      ap (λ (n : ℕ). getD (overwrite chip place bytes) n d) e
       ∙ rest-at (length bytes + k) d
       ∙ getD-append-add bytes (drop (place + length bytes) chip) k d
       ∙ getD-drop (place + length bytes) chip k d
       ∙ ap (λ (n : ℕ). getD chip n d) (f ∙ sym e)
 
   -- what stands after the chip is not touched
-  pub over-append : (more : List ℕ) → over (chip ++ more) place bytes ≡ over chip place bytes ++ more
-  over-append more =
+  pub overwrite-append : (more : List ℕ) → overwrite (chip ++ more) place bytes ≡ overwrite chip place bytes ++ more
+  overwrite-append more =
       rw (take-append-le place chip more (omega arith), drop-append-le (place + length bytes) chip more fits)
       (ap (λ (l : List ℕ). take place chip ++ l) (sym (append-assoc bytes (drop (place + length bytes) chip) more))
       ∙ sym (append-assoc (take place chip) (bytes ++ drop (place + length bytes) chip) more))
 
 -- Bytes stored one by one stand over what was there;
-pub paste-over : (chip : List ℕ) (place : ℕ) (bytes : List ℕ) → paste chip place bytes (length bytes) ≡ over chip place bytes
+pub paste-over : (chip : List ℕ) (place : ℕ) (bytes : List ℕ) → paste chip place bytes (length bytes) ≡ overwrite chip place bytes
 paste-over chip place bytes = rw (take-length bytes) (append-assoc (take place chip) bytes (drop (place + length bytes) chip))
 
 -- so do bytes copied to the front of what lies from the place on.
 pub front-over : (chip : List ℕ) (place : ℕ) (bytes after : List ℕ) → after ≡ take (length bytes) bytes ++ drop (length bytes) (take (length chip - place) (drop place chip)) →
-    take place chip ++ (after ++ drop (length chip - place) (drop place chip)) ≡ over chip place bytes
+    take place chip ++ (after ++ drop (length chip - place) (drop place chip)) ≡ overwrite chip place bytes
 front-over chip place bytes after e =
     let n : length (drop place chip) ≡ length chip - place = length-drop place chip in
     let all : take (length chip - place) (drop place chip) ≡ drop place chip = take-all (length chip - place) (drop place chip) (omega arith) in
@@ -75,9 +75,9 @@ front-over chip place bytes after e =
     ap (λ (l : List ℕ). take place chip ++ l) (rw none (append-nil after) ∙ part)
 
 -- Where the span lies within the chip, its bytes are the new ones.
-pub within-over : (chip : List ℕ) (place count : ℕ) (bytes : List ℕ) → place + count ≤ length chip → within chip place count bytes ≡ over chip place bytes
-unfolding within ask
-within-over chip place count bytes h = rw (le-leb (place + count) (length chip) h) refl
+pub in-range : (chip : List ℕ) (place count : ℕ) (bytes : List ℕ) → place + count ≤ length chip → overwriteInRange chip place count bytes ≡ overwrite chip place bytes
+unfolding overwriteInRange ask
+in-range chip place count bytes h = rw (le-leb (place + count) (length chip) h) refl
 
 -- What an erase and a program leave, byte by byte.
 pub erased-length : (count : ℕ) → length (erased count) ≡ count

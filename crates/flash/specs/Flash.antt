@@ -17,12 +17,12 @@ abbrev pub span : List ℕ → ℕ → ℕ → List ℕ
 span chip place count = take count (drop place chip)
 
 -- A chip whose bytes from a place on are these; outside their span every byte stays.
-abbrev pub over : List ℕ → ℕ → List ℕ → List ℕ
-over chip place bytes = take place chip ++ (bytes ++ drop (place + length bytes) chip)
+abbrev pub overwrite : List ℕ → ℕ → List ℕ → List ℕ
+overwrite chip place bytes = take place chip ++ (bytes ++ drop (place + length bytes) chip)
 
 -- The same where a span of so many bytes lies within the chip; else the chip as it was.
-unfoldable pub within : List ℕ → ℕ → ℕ → List ℕ → List ℕ
-within chip place count bytes = ask (leb (place + count) (length chip)) chip (over chip place bytes)
+unfoldable pub overwriteInRange : List ℕ → ℕ → ℕ → List ℕ → List ℕ
+overwriteInRange chip place count bytes = ask (leb (place + count) (length chip)) chip (overwrite chip place bytes)
 
 -- A program can only clear bits: an obeying chip clears exactly those that are 0 in its bytes.
 unfoldable pub cleared : List ℕ → List ℕ → List ℕ
@@ -39,5 +39,5 @@ abbrev pub bit : ℕ → ℕ → ℕ
 bit n byte = byte / 2 ^ n % 2
 
 -- Each bit ends old or as an obeying chip would hold it, in any mixture.
-abbrev pub Mixed : List ℕ → List ℕ → List ℕ → Type 0
-Mixed old obeyed new = (i : ℕ) → i < length new → (n : ℕ) → n < 8 → (bit n (getD new i 0) ≡ bit n (getD old i 0)) ⊎ (bit n (getD new i 0) ≡ bit n (getD obeyed i 0))
+abbrev pub BitwiseMix : List ℕ → List ℕ → List ℕ → Type 0
+BitwiseMix old obeyed new = (i : ℕ) → i < length new → (n : ℕ) → n < 8 → (bit n (getD new i 0) ≡ bit n (getD old i 0)) ⊎ (bit n (getD new i 0) ≡ bit n (getD obeyed i 0))

@@ -3,9 +3,9 @@ ghost use mathlib.Core.Path.{_≡_};
 ghost use Prim.Native.Nat.{_+_};
 ghost use lib.Dec.{leb};
 ghost use lib.ListN.{length};
-ghost use Rattle.flash.specs.Flash.{erased, afterProgram, within};
+ghost use Rattle.flash.specs.Flash.{erased, afterProgram, overwriteInRange};
 
-// Whether a span lies within so many bytes. Asked of what is left after its place, so that no sum can wrap.
+// Whether a span lies within a number of bytes. Asked of what is left after its place, so that no sum can wrap.
 fn lies_within(length: usize, place: usize, count: usize) -> bool
     ensures { λ r. ⌜ r ≡ leb (place + count) length ⌝ }
 {
@@ -15,9 +15,9 @@ fn lies_within(length: usize, place: usize, count: usize) -> bool
     count <= length - place
 }
 
-// An erase sets every byte of its span to FF.
+// An erase sets every byte of its span to FF. Outside the chip it changes nothing.
 pub fn erase(chip: &mut [u8], place: usize, count: usize)
-    ensures { λ r. ⌜ now (chip .exit) ≡ within (now (chip .entry)) place count (erased count) ⌝ }
+    ensures { λ r. ⌜ now (chip .exit) ≡ overwriteInRange (now (chip .entry)) place count (erased count) ⌝ }
 {
     if !lies_within(chip.len(), place, count) {
         return;
@@ -29,9 +29,9 @@ pub fn erase(chip: &mut [u8], place: usize, count: usize)
     }
 }
 
-// A program clears exactly the bits that are 0 in its bytes.
+// A program clears exactly the bits that are 0 in its bytes. Outside the chip it changes nothing.
 pub fn program(chip: &mut [u8], place: usize, bytes: &[u8])
-    ensures { λ r. ⌜ now (chip .exit) ≡ within (now (chip .entry)) place (length (now (bytes .entry))) (afterProgram (now (chip .entry)) place (now (bytes .entry))) ⌝ }
+    ensures { λ r. ⌜ now (chip .exit) ≡ overwriteInRange (now (chip .entry)) place (length (now (bytes .entry))) (afterProgram (now (chip .entry)) place (now (bytes .entry))) ⌝ }
 {
     if !lies_within(chip.len(), place, bytes.len()) {
         return;
@@ -44,8 +44,8 @@ pub fn program(chip: &mut [u8], place: usize, bytes: &[u8])
 }
 
 // Puts bytes over a span, whatever stood there: no order does this, a builder and a cut do.
-pub fn write(chip: &mut [u8], place: usize, bytes: &[u8])
-    ensures { λ r. ⌜ now (chip .exit) ≡ within (now (chip .entry)) place (length (now (bytes .entry))) (now (bytes .entry)) ⌝ }
+pub fn overwrite(chip: &mut [u8], place: usize, bytes: &[u8])
+    ensures { λ r. ⌜ now (chip .exit) ≡ overwriteInRange (now (chip .entry)) place (length (now (bytes .entry))) (now (bytes .entry)) ⌝ }
 {
     if !lies_within(chip.len(), place, bytes.len()) {
         return;

@@ -10,7 +10,3 @@ words (a ∷ []) = []
 words (a ∷ b ∷ []) = []
 words (a ∷ b ∷ c ∷ []) = []
 words (a ∷ b ∷ c ∷ d ∷ bytes) = ((a * 256 + b) * 65536 + (c * 256 + d)) ∷ words bytes
-
--- the word at a place
-abbrev pub wordAt : List ℕ → ℕ → ℕ
-wordAt bytes place = getD (words (drop place bytes)) 0 0

@@ -1,2 +1,7 @@
--- What each exported function gives a C host.
-pub mod Calls
+-- The functions that a C host calls.
+pub mod Types
+pub mod Kinds
+pub mod Boot
+pub mod Build
+pub mod Run
+pub mod Cut

@@ -1,10 +1,12 @@
 // What a chip loads, and an image by itself.
 ghost use mathlib.Core.Path.{_≡_};
-ghost use Rattle.host.specs.Calls.{bootOf, writeOf, imageOf};
-use bootreader::chip as loader;
-use bootreader::chip::BootAnswer;
+ghost use Rattle.host.specs.Boot.{bootCall, writeCall, imageCall};
+use base::refusal;
+use bootreader::boot;
+use bootreader::boot::BootAnswer;
 use bootreader::image;
 use bootreader::image::ImageAnswer;
+use kind::spi::Spi;
 use packets::trace::WriteAnswer;
 use results::boot::TealsettleBoot;
 use results::boot::TealsettleImage;
@@ -12,19 +14,18 @@ use results::boot::TealsettleWrite;
 use results::boot::boot_result;
 use results::boot::image_result;
 use results::boot::write_result;
-use results::kind::is_spi;
 
 // What a chip loads, or where it is stuck.
 #[no_mangle]
 pub extern "C" fn tealsettle_boot(kind: u32, chip: &[u8]) -> TealsettleBoot
-    ensures { λ r. ⌜ r ≡ bootOf kind (now (chip .entry)) ⌝ }
+    ensures { λ r. ⌜ r ≡ bootCall kind (now (chip .entry)) ⌝ }
 {
     let mut answer = BootAnswer::Refused {
-        number: 1,
+        number: refusal::BAD_CHIP_LENGTH,
         place: 0,
     };
-    if is_spi(kind) {
-        answer = loader::boot(chip);
+    if Spi::has_number(kind) {
+        answer = boot::answer(chip);
     }
     boot_result(answer)
 }
@@ -32,14 +33,14 @@ pub extern "C" fn tealsettle_boot(kind: u32, chip: &[u8]) -> TealsettleBoot
 // The i-th write, counted from 0, of what a chip loads.
 #[no_mangle]
 pub extern "C" fn tealsettle_write(kind: u32, chip: &[u8], i: usize) -> TealsettleWrite
-    ensures { λ r. ⌜ r ≡ writeOf kind (now (chip .entry)) i ⌝ }
+    ensures { λ r. ⌜ r ≡ writeCall kind (now (chip .entry)) i ⌝ }
 {
     let mut answer = WriteAnswer::Refused {
-        number: 1,
+        number: refusal::BAD_CHIP_LENGTH,
         place: 0,
     };
-    if is_spi(kind) {
-        answer = loader::write(chip, i);
+    if Spi::has_number(kind) {
+        answer = boot::write(chip, i);
     }
     write_result(answer)
 }
@@ -47,13 +48,13 @@ pub extern "C" fn tealsettle_write(kind: u32, chip: &[u8], i: usize) -> Tealsett
 // What an image loads by itself.
 #[no_mangle]
 pub extern "C" fn tealsettle_image_check(kind: u32, image: &[u8]) -> TealsettleImage
-    ensures { λ r. ⌜ r ≡ imageOf kind (now (image .entry)) ⌝ }
+    ensures { λ r. ⌜ r ≡ imageCall kind (now (image .entry)) ⌝ }
 {
     let mut answer = ImageAnswer::Refused {
-        number: 1,
+        number: refusal::BAD_CHIP_LENGTH,
         place: 0,
     };
-    if is_spi(kind) {
+    if Spi::has_number(kind) {
         answer = image::check(image);
     }
     image_result(answer)

@@ -1,9 +1,10 @@
 // A run on the bytes of a chip, cut after so many orders.
 ghost use mathlib.Core.Path.{_≡_};
-ghost use Rattle.host.specs.Calls.{benchOf, benchOutputOf};
+ghost use Rattle.host.specs.Cut.{benchCall, benchCallOutput};
+use base::refusal;
 use bench::BenchAnswer;
 use bench::cut_run;
-use results::kind::is_spi;
+use kind::spi::Spi;
 use runresults::cut::TealsettleBench;
 use runresults::cut::bench_result;
 
@@ -19,14 +20,14 @@ pub extern "C" fn tealsettle_cut_run(
     k: usize,
     damage: &[u8],
 ) -> TealsettleBench
-    ensures answer { λ r. ⌜ r ≡ benchOf kind (now (chip .entry)) update area (now (image .entry)) k (now (damage .entry)) ⌝ }
-    ensures output { λ r. ⌜ now (chip .exit) ≡ benchOutputOf kind (now (chip .entry)) update area (now (image .entry)) k (now (damage .entry)) ⌝ }
+    ensures answer { λ r. ⌜ r ≡ benchCall kind (now (chip .entry)) update area (now (image .entry)) k (now (damage .entry)) ⌝ }
+    ensures output { λ r. ⌜ now (chip .exit) ≡ benchCallOutput kind (now (chip .entry)) update area (now (image .entry)) k (now (damage .entry)) ⌝ }
 {
     let mut answer = BenchAnswer::Refused {
-        number: 1,
+        number: refusal::BAD_CHIP_LENGTH,
         place: 0,
     };
-    if is_spi(kind) {
+    if Spi::has_number(kind) {
         answer = cut_run(chip, update, area, image, k, damage);
     }
     bench_result(answer)

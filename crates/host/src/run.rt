@@ -1,10 +1,10 @@
 // A run on a printer's chip, order by order. Its state goes in and comes back as numbers.
 ghost use mathlib.Core.Path.{_≡_};
-ghost use Rattle.chip.specs.Answers.{layoutOf};
-ghost use Rattle.runresults.specs.Results.{stateOf};
-ghost use Rattle.host.specs.Calls.{startOf, totalOf, orderOf, replyOf, finishedOf};
-use chip::kind::Spi;
-use results::kind::is_spi;
+ghost use Rattle.kind.specs.Layout.{layoutOf};
+ghost use Rattle.runresults.specs.Run.{stateOf};
+ghost use Rattle.host.specs.Run.{startCall, totalCall, orderCall, replyCall, finishedCall};
+use base::refusal;
+use kind::spi::Spi;
 use runresults::run::TealsettleFinished;
 use runresults::run::TealsettleOrder;
 use runresults::run::TealsettleReply;
@@ -33,13 +33,13 @@ pub extern "C" fn tealsettle_start(
     area: usize,
     image: &[u8],
 ) -> TealsettleStart
-    ensures { λ r. ⌜ r ≡ startOf kind (layoutOf length update area) (now (image .entry)) ⌝ }
+    ensures { λ r. ⌜ r ≡ startCall kind (layoutOf length update area) (now (image .entry)) ⌝ }
 {
     let mut answer = StartAnswer::Refused {
-        number: 1,
+        number: refusal::BAD_CHIP_LENGTH,
         place: 0,
     };
-    if is_spi(kind) {
+    if Spi::has_number(kind) {
         answer = start(Spi::layout(length, update, area), image);
     }
     start_result(answer)
@@ -54,13 +54,13 @@ pub extern "C" fn tealsettle_total(
     area: usize,
     n: usize,
 ) -> TealsettleTotal
-    ensures { λ r. ⌜ r ≡ totalOf kind (layoutOf length update area) n ⌝ }
+    ensures { λ r. ⌜ r ≡ totalCall kind (layoutOf length update area) n ⌝ }
 {
     let mut answer = TotalAnswer::Refused {
-        number: 1,
+        number: refusal::BAD_CHIP_LENGTH,
         place: 0,
     };
-    if is_spi(kind) {
+    if Spi::has_number(kind) {
         answer = total(Spi::layout(length, update, area), n);
     }
     total_result(answer)
@@ -79,10 +79,10 @@ pub extern "C" fn tealsettle_order(
     outcome: u32,
     image: &[u8],
 ) -> TealsettleOrder
-    ensures { λ r. ⌜ r ≡ orderOf kind (stateOf length update area n phase index outcome) (now (image .entry)) ⌝ }
+    ensures { λ r. ⌜ r ≡ orderCall kind (stateOf length update area n phase index outcome) (now (image .entry)) ⌝ }
 {
-    if !is_spi(kind) {
-        return refused_order(7);
+    if !Spi::has_number(kind) {
+        return refused_order(refusal::BAD_STATE);
     }
     order_of(
         state_of(length, update, area, n, phase, index, outcome),
@@ -102,16 +102,16 @@ pub extern "C" fn tealsettle_reply(
     index: usize,
     outcome: u32,
     image: &[u8],
-    said: u32,
+    reply_kind: u32,
     bytes: &[u8],
 ) -> TealsettleReply
-    ensures { λ r. ⌜ r ≡ replyOf kind (stateOf length update area n phase index outcome) (now (image .entry)) said (now (bytes .entry)) ⌝ }
+    ensures { λ r. ⌜ r ≡ replyCall kind (stateOf length update area n phase index outcome) (now (image .entry)) «reply_kind» (now (bytes .entry)) ⌝ }
 {
     let state = state_of(length, update, area, n, phase, index, outcome);
-    if !is_spi(kind) {
-        return replied(7, 0, 0, state);
+    if !Spi::has_number(kind) {
+        return replied(refusal::BAD_STATE, 0, 0, state);
     }
-    reply_of(state, image, said, bytes)
+    reply_of(state, image, reply_kind, bytes)
 }
 
 // Whether a run has ended, and how.
@@ -126,13 +126,13 @@ pub extern "C" fn tealsettle_finished(
     index: usize,
     outcome: u32,
 ) -> TealsettleFinished
-    ensures { λ r. ⌜ r ≡ finishedOf kind (stateOf length update area n phase index outcome) ⌝ }
+    ensures { λ r. ⌜ r ≡ finishedCall kind (stateOf length update area n phase index outcome) ⌝ }
 {
     let mut answer = FinishedAnswer::Refused {
-        number: 7,
+        number: refusal::BAD_STATE,
         place: 0,
     };
-    if is_spi(kind) {
+    if Spi::has_number(kind) {
         let state = state_of(length, update, area, n, phase, index, outcome);
         answer = state.finished();
     }

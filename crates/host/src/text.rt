@@ -1,7 +1,7 @@
 // Image files in MCS text.
 ghost use mathlib.Core.Path.{_≡_};
-ghost use Rattle.mcs.specs.Answers.{readAnswer, readOutput};
-ghost use Rattle.results.specs.Results.{readResult};
+ghost use Rattle.mcs.specs.Reader.{readAnswer, readOutput};
+ghost use Rattle.results.specs.Text.{readResult};
 use mcs::reader;
 use results::text::TealsettleRead;
 use results::text::read_result;

@@ -1,2 +1,3 @@
 -- What a reader is, and what it gives next.
-pub mod Reader
+pub mod Types
+pub mod Imagereader

@@ -2,8 +2,9 @@
 // by itself, one at a time. Making one checks the whole image; each write is then read on from the last,
 // and no byte is copied.
 ghost use mathlib.Core.Path.{_≡_};
-ghost use Rattle.bootreader.specs.Answers.{imageWrite};
-ghost use Rattle.imagereader.specs.Reader.{takenStep, takenFrom, takenBy, placeOf, readerAt, moved};
+ghost use Rattle.kind.specs.Spi.{spi};
+ghost use Rattle.bootreader.specs.Image.{imageWrite};
+ghost use Rattle.imagereader.specs.Imagereader.{nextStep, nextFrom, nextOf, nextPlace, readerAt, readerAfter};
 use bootreader::image;
 use packets::trace::WriteAnswer;
 use writes::cursor::Cursor;
@@ -18,24 +19,24 @@ pub struct Reader<'a> {
 }
 
 // What a reader gives next, and where it is after that.
-struct Taken {
+struct NextResult {
     answer: WriteAnswer,
     listing: Listing,
 }
 
 // A cursor at the end stays there.
-fn taken_step(step: CursorStep, cursor: Cursor) -> Taken
-    ensures { λ r. ⌜ r ≡ takenStep step cursor ⌝ }
+fn next_step(step: CursorStep, cursor: Cursor) -> NextResult
+    ensures { λ r. ⌜ r ≡ nextStep step cursor ⌝ }
 {
     match step {
         CursorStep::Wrote {
             write,
             cursor: after,
-        } => Taken {
+        } => NextResult {
             answer: WriteAnswer::Found(write),
             listing: Listing::Open(after),
         },
-        CursorStep::Done => Taken {
+        CursorStep::Done => NextResult {
             answer: WriteAnswer::Nothing,
             listing: Listing::Open(cursor),
         },
@@ -43,12 +44,12 @@ fn taken_step(step: CursorStep, cursor: Cursor) -> Taken
 }
 
 // The next write of an image from where a listing is. A refused image is refused again at every call.
-fn take(image: &[u8], listing: Listing) -> Taken
-    ensures { λ r. ⌜ r ≡ takenFrom (now (image .entry)) listing ⌝ }
+fn next_result(image: &[u8], listing: Listing) -> NextResult
+    ensures { λ r. ⌜ r ≡ nextFrom (now (image .entry)) listing ⌝ }
 {
     match listing {
-        Listing::Open(cursor) => taken_step(cursor.step(image), cursor),
-        Listing::Refused { number, place } => Taken {
+        Listing::Open(cursor) => next_step(cursor.step(image), cursor),
+        Listing::Refused { number, place } => NextResult {
             answer: WriteAnswer::Refused { number, place },
             listing,
         },
@@ -56,8 +57,8 @@ fn take(image: &[u8], listing: Listing) -> Taken
 }
 
 // The place of the next word, or the refusal's place.
-fn place_of(listing: Listing) -> usize
-    ensures { λ r. ⌜ r ≡ placeOf listing ⌝ }
+fn next_place(listing: Listing) -> usize
+    ensures { λ r. ⌜ r ≡ nextPlace listing ⌝ }
 {
     match listing {
         Listing::Open(cursor) => cursor.at,
@@ -66,7 +67,7 @@ fn place_of(listing: Listing) -> usize
 }
 
 impl<'a> Reader<'a> {
-    // A reader before the first write of an image, or at its refusal.
+    // A reader before the first write of an image, or at refusal 4, 5 or 6.
     pub fn new(image: &'a [u8]) -> Reader<'a>
         ensures { λ r. ⌜ r ≡ readerAt (image .entry) ⌝ }
     {
@@ -74,26 +75,26 @@ impl<'a> Reader<'a> {
         Reader { image, listing }
     }
 
-    // The next write, and the reader moves past it.
+    // The next write, and the reader moves past it; or that all were given, or the refusal, and the reader stays.
     pub fn next<'s>(&'s mut self) -> WriteAnswer
-        ensures { λ r. ⌜ (r ≡ takenBy (now (self .entry)) .answer) × (now (self .exit) ≡ moved (now (self .entry))) ⌝ }
+        ensures { λ r. ⌜ (r ≡ nextOf (now (self .entry)) .answer) × (now (self .exit) ≡ readerAfter (now (self .entry))) ⌝ }
     {
-        let taken = take(self.image, self.listing);
+        let taken = next_result(self.image, self.listing);
         self.listing = taken.listing;
         taken.answer
     }
 
-    // How far the reader is, in bytes from the image's start.
+    // How far the reader is: the place of the next word, or the refusal's place.
     pub fn at(self) -> usize
-        ensures { λ r. ⌜ r ≡ placeOf (self .entry .listing) ⌝ }
+        ensures { λ r. ⌜ r ≡ nextPlace (self .entry .listing) ⌝ }
     {
-        place_of(self.listing)
+        next_place(self.listing)
     }
 }
 
-// The first write of an image read by itself.
+// The first write of an image read by itself, or that there is none; or refusal 4, 5 or 6.
 pub fn first_write(image: &[u8]) -> WriteAnswer
-    ensures { λ r. ⌜ r ≡ imageWrite (now (image .entry)) 0 ⌝ }
+    ensures { λ r. ⌜ r ≡ imageWrite spi (now (image .entry)) 0 ⌝ }
 {
     let mut reader = Reader::new(image);
     reader.next()

@@ -5,17 +5,15 @@ use native.Mathlib.Omega.{arith}
 use lib.ListN.{drop}
 use Rattle.base.specs.Question.{ask}
 use Rattle.base.proofs.Laws.{asked}
-use Rattle.chip.specs.Kind.{Kind, Lawful}
+use Rattle.kind.specs.Kind.{Kind}
+use Rattle.chip.specs.Chip.{Lawful}
 use Rattle.orders.specs.Orders.{orders}
 use Rattle.starts.specs.Starts.{startAnswer}
 use Rattle.effects.specs.Progress.{chipAfter, stateAt}
 use Rattle.bench.specs.Bench.{cutAllowed, benchAnswer, benchOutput}
 use Rattle.life.specs.Life.{fresh, Valid, life}
 use Rattle.life.specs.BenchLife.{benchRun, BenchLives}
-use Rattle.starts.specs.declared.StartAnswer.{StartAnswer}
-use Rattle.starts.specs.declared.StartAnswer.the-variants.{Started, Refused as StartRefused}
-use Rattle.bench.specs.declared.BenchAnswer.{BenchAnswer}
-use Rattle.bench.specs.declared.BenchAnswer.the-variants.{Reached, Refused}
+use Rattle.life.specs.Types.{StartAnswer, Started, StartRefused, BenchAnswer, Reached, BenchRefused}
 use Rattle.starts.proofs.Laws.{opened}
 use Rattle.bench.proofs.Laws.{onStart, by-start}
 use Rattle.life.proofs.UncutLaws.{cut-run}
@@ -26,17 +24,17 @@ bench-lives kind lawful layout chip image k damage state e long bytes small = go
   where
     -- question 10 and the answer, once the start is accepted
     asks : BenchAnswer
-    asks = ask (cutAllowed (drop k (orders kind layout image)) (chipAfter kind layout image k chip) damage) (Refused 13 0) (Reached (stateAt layout image k))
+    asks = ask (cutAllowed (drop k (orders kind layout image)) (chipAfter kind layout image k chip) damage) (BenchRefused 13 0) (Reached (stateAt layout image k))
 
-    refused : (number place : ℕ) → Refused number place ≡ Reached state → ⊥
+    refused : (number place : ℕ) → BenchRefused number place ≡ Reached state → ⊥
     refused number place q = let z : _≡_ {A = ℕ} 0 1 = cc in omega arith
 
     go : (s : StartAnswer) → startAnswer kind layout image ≡ s →
-        Valid kind (layout .update) (fresh chip) (benchRun kind layout chip image k damage)
+        Valid kind (layout .«update_place») (fresh chip) (benchRun kind layout chip image k damage)
         × (life kind (fresh chip) (benchRun kind layout chip image k damage) .chip ≡ benchOutput (Reached state) kind layout chip image k damage)
     go (Started begun) q =
         let o = opened kind lawful layout image begun q in
-        let r : asks ≡ Reached state = sym (ap (onStart Refused asks) q) ∙ by-start kind Refused asks layout image ∙ e in
-        let l = cut-run kind lawful (layout .update) layout image (o .numbers) (o .alone) bytes damage small (fresh chip) k long refl (asked _ _ _ _ r (refused 13 0) .0) in
+        let r : asks ≡ Reached state = sym (ap (onStart BenchRefused asks) q) ∙ by-start kind BenchRefused asks layout image ∙ e in
+        let l = cut-run kind lawful (layout .«update_place») layout image (o .numbers) (o .alone) bytes damage small (fresh chip) k long refl (asked _ _ _ _ r (refused 13 0) .0) in
         (l .valid, l .reached)
-    go (StartRefused number place) q = absurd (refused number place (sym (ap (onStart Refused asks) q) ∙ by-start kind Refused asks layout image ∙ e))
+    go (StartRefused number place) q = absurd (refused number place (sym (ap (onStart BenchRefused asks) q) ∙ by-start kind BenchRefused asks layout image ∙ e))

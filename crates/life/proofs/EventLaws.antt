@@ -4,14 +4,11 @@ use mathlib.Core.Bool.{false}
 use mathlib.Core.Option.{none, some}
 use mathlib.Core.List.{List}
 use Prim.Native.Nat.{ℕ}
-use Rattle.chip.specs.Kind.{Kind}
-use Rattle.chip.specs.declared.kind.Layout.{Layout}
+use Rattle.kind.specs.Kind.{Kind}
+use Rattle.life.specs.Types.{Layout, State, ReplyRefused, Started, StartRefused}
 use Rattle.starts.specs.Starts.{startAnswer}
-use Rattle.updater.specs.Answers.{replyAnswer}
+use Rattle.updater.specs.Run.{replyAnswer}
 use Rattle.life.specs.Life.{Run, World, found, starts, replies, cuts, afterStart, afterReply, onRun, next}
-use Rattle.updater.specs.declared.run.State.{State}
-use Rattle.starts.specs.declared.StartAnswer.the-variants.{Started, Refused as StartRefused}
-use Rattle.updater.specs.declared.run.ReplyAnswer.the-variants.{Refused}
 
 module _ (kind : Kind) (w : World) where
   -- A cut closes the run. What the last run has found and ordered, the ordered image and the chip survive it.
@@ -30,7 +27,7 @@ module _ (kind : Kind) (w : World) where
   unfolding next afterStart
   start-refused layout image number place e = rw e refl
 
-  pub reply-refused : (run : Run) (image : List ℕ) (said : ℕ) (bytes : List ℕ) (number place : ℕ) (state : State) → w .run ≡ some run → replyAnswer kind (run .state) image said bytes ≡ Refused number place state →
-      next kind w (replies image said bytes) ≡ w
+  pub reply-refused : (run : Run) (image : List ℕ) (replyKind : ℕ) (bytes : List ℕ) (number place : ℕ) (state : State) → w .run ≡ some run → replyAnswer kind (run .state) image replyKind bytes ≡ ReplyRefused number place state →
+      next kind w (replies image replyKind bytes) ≡ w
   unfolding next onRun afterReply
-  reply-refused run image said bytes number place state is-open e = rw (is-open, e) refl
+  reply-refused run image replyKind bytes number place state is-open e = rw (is-open, e) refl

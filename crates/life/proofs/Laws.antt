@@ -1,5 +1,5 @@
 -- What crates above may count on of a chip's life: the demands, for any kind and for the SPI kind.
-use Rattle.chip.specs.Kind.{spi}
+use Rattle.kind.specs.Spi.{spi}
 use Rattle.chip.proofs.Laws.{spi-lawful}
 use Rattle.life.specs.OrderList.{Demand2}
 use Rattle.life.specs.BenchLife.{BenchLives}

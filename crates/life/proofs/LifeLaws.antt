@@ -11,32 +11,28 @@ use lib.Dec.{eqb, ltb}
 use lib.ListN.{length, getD, drop, length-take, length-drop, getD-replicate}
 use lib.Seq.{ext-getD}
 use Rattle.base.proofs.Laws.{false-true}
-use Rattle.bootreader.proofs.Laws.{length-allowed}
-use Rattle.chip.specs.Layout.{page, segment, switchAt}
-use Rattle.flash.specs.Flash.{erased, span, over, afterProgram}
+use Rattle.kind.proofs.Laws.{chip-length-range, update-place-range, update-length-range}
+use Rattle.kind.specs.Layout.{page, segment, switchAt}
+use Rattle.flash.specs.Flash.{erased, span, overwrite, afterProgram}
 use Rattle.chip.specs.Cut.{MayLeave}
-use Rattle.chip.specs.Kind.{Kind, switchWord, goldenArea, Covers, LoadsAlone, Good, Stands, Lawful}
-use Rattle.chip.specs.declared.kind.Layout.{Layout}
-use Rattle.flash.proofs.Laws.{getD-any, span-at, span-length, over-length, over-before, over-after, erased-length, cleared-length}
-use Rattle.chip.proofs.Laws.{update-allowed, area-allowed, golden-stays, erase-good, program-good, area-switch, area-good}
+use Rattle.kind.specs.Kind.{Kind}
+use Rattle.chip.specs.Chip.{switchWord, goldenArea, BitSuperset, LoadsAlone, WellFormed, ContainsAt, Lawful}
+use Rattle.life.specs.Types.{Layout, State, ReplyAnswer, Next, Stopped, ReplyRefused, StartAnswer, Started, StartRefused}
+use Rattle.flash.proofs.Laws.{getD-any, span-at, span-length, overwrite-length, overwrite-before, overwrite-after, erased-length, cleared-length}
+use Rattle.chip.proofs.Laws.{golden-stays, erase-well-formed, program-well-formed, area-switch, area-well-formed}
 use Rattle.orders.specs.Table.{byPhase, count}
 use Rattle.orders.specs.Orders.{Order, erase, program, look, pageOf, orderOf}
-use Rattle.updater.specs.Run.{after, ended, running, fits}
-use Rattle.comparison.specs.Comparison.{filled, differs}
+use Rattle.updater.specs.State.{after, ended, running, fits}
+use Rattle.comparison.specs.Comparison.{padded, differs}
 use Rattle.effects.specs.Effects.{obeyedSpan, leaves}
 use Rattle.starts.specs.Starts.{startAnswer}
-use Rattle.updater.specs.Answers.{stopOf, replyAnswer}
+use Rattle.updater.specs.Run.{stopOf, replyAnswer}
 use Rattle.life.specs.OrderList.{Replies, Moved}
-use Rattle.life.specs.Life.{Run, World, found, starts, carries, replies, cuts, Event, afterStart, agrees, lookSeen, orderedImage, carryOut, afterReply, orderOfRun, onRun, next, MayStart, MayBeLeft, MayOrder, TrueRead, Honest, MayReply, May, Valid, life, isOn, Standing}
-use Rattle.updater.specs.declared.run.State.{State}
-use Rattle.starts.specs.declared.StartAnswer.{StartAnswer}
-use Rattle.starts.specs.declared.StartAnswer.the-variants.{Started, Refused as StartRefused}
-use Rattle.updater.specs.declared.run.ReplyAnswer.{ReplyAnswer}
-use Rattle.updater.specs.declared.run.ReplyAnswer.the-variants.{Next, Stopped, Refused}
+use Rattle.life.specs.Life.{Run, World, found, starts, carries, replies, cuts, Event, afterStart, agrees, lookSeen, orderedImage, carryOut, afterReply, orderOfRun, onRun, next, AdmissibleStart, AdmissibleSpan, AdmissibleOrder, TrueRead, TruthfulReply, AdmissibleReply, Admissible, Valid, life, isOn, OrderedImageInPlace}
 use Rattle.orders.proofs.Laws.{phases, area-segments, image-pages, page-at}
 use Rattle.updater.proofs.Laws.{Numbers, numbers-image, fits-says, running-says, after-index, after-phase, last-or-not, after-fits, first-fits, current-order}
 use Rattle.starts.proofs.Laws.{opened}
-use Rattle.comparison.proofs.Laws.{filled-at, filled-length, none-same}
+use Rattle.comparison.proofs.Laws.{padded-at, padded-length, none-same}
 use Rattle.life.proofs.ReplyLaws.{moved, halted}
 
 -- The switch word is erased.
@@ -45,7 +41,7 @@ Erased w = switchWord (w .chip) ≡ erased 4
 
 -- So many bytes of the update area have been seen to be the image, then FF.
 abbrev pub Seen : Run → World → ℕ → Type 0
-Seen run w count = (j : ℕ) → j < count → getD (w .chip) (run .state .layout .update + j) 0 ≡ getD (run .image) j 0xFF
+Seen run w count = (j : ℕ) → j < count → getD (w .chip) (run .state .layout .«update_place» + j) 0 ≡ getD (run .image) j 0xFF
 
 -- how many looks of phase 1 a run can have behind it, at an index
 abbrev looksBy : Run → ℕ
@@ -60,24 +56,24 @@ Stage phase run w =
     (Erased w)
     (Erased w)
     (Erased w × Seen run w (page * run .state .index))
-    (run .carried ≡ false → Erased w × Seen run w (run .state .layout .area))
+    (run .carried ≡ false → Erased w × Seen run w (run .state .layout .«update_length»))
     (Unit {0})
     (Unit {0})
 
-module _ (kind : Kind) (update : ℕ) where
+module _ (kind : Kind) (updatePlace : ℕ) where
   -- An open run: its state fits, it has the chip's layout and an accepted image, and knows what its phase says.
   pub record Holds (run : Run) (w : World) : Type 0 where
     pub fitted : running (run .state) ≡ true → fits (run .state) (length (run .image)) ≡ true
-    pub long : run .state .layout .length ≡ length (w .chip)
-    pub place : run .state .layout .update ≡ update
+    pub long : run .state .layout .«chip_length» ≡ length (w .chip)
+    pub place : run .state .layout .«update_place» ≡ updatePlace
     pub alone : LoadsAlone kind (run .image)
     pub stage : Stage (run .state .phase) run w
 
-  -- THE INVARIANT. The chip is good and its golden area the first one; if it is ON, the ordered image stands at U; while the last run has found and not ordered, the switch word is erased.
-  pub record Invariant (area : List ℕ) (w : World) : Type 0 where
-    pub good : Good kind update (w .chip)
-    pub golden : goldenArea update (w .chip) ≡ area
-    pub image : isOn kind w ≡ true → Standing kind update w
+  -- THE INVARIANT. The chip is well-formed and its golden area the first one; if it is ON, the ordered image stands at U; while the last run has found and not ordered, the switch word is erased.
+  pub record Invariant (firstGolden : List ℕ) (w : World) : Type 0 where
+    pub formed : WellFormed kind updatePlace (w .chip)
+    pub golden : goldenArea updatePlace (w .chip) ≡ firstGolden
+    pub image : isOn kind w ≡ true → OrderedImageInPlace kind updatePlace w
     pub found : found w ≡ true → w .ordered ≡ false → Erased w
     pub run : onRun (w .run) (Unit {0}) (λ run. Holds run w)
 
@@ -96,7 +92,7 @@ page-erased chip l e =
     ∙ sym (getD-replicate 4 i 0xFF 0 (omega arith)))
 
 -- A page that is the image's, then FF: one page more has been seen.
-page-seen : (chip image : List ℕ) (place i : ℕ) → span chip (place + page * i) page ≡ filled page (pageOf image i) →
+page-seen : (chip image : List ℕ) (place i : ℕ) → span chip (place + page * i) page ≡ padded page (pageOf image i) →
     ((j : ℕ) → j < page * i → getD chip (place + j) 0 ≡ getD image j 0xFF) → (j : ℕ) → j < page * (i + 1) → getD chip (place + j) 0 ≡ getD image j 0xFF
 page-seen chip image place i e seen j h = go (ltb j (page * i)) refl
   where
@@ -111,25 +107,25 @@ page-seen chip image place i e seen j h = go (ltb j (page * i)) refl
         ap (λ (x : ℕ). getD chip x 0) (sym here)
         ∙ sym (span-at chip (place + page * i) page k m)
         ∙ ap (λ (b : List ℕ). getD b k 0) e
-        ∙ filled-at page (pageOf image i) k m
+        ∙ padded-at page (pageOf image i) k m
         ∙ page-at image i k 0xFF m
         ∙ ap (λ (x : ℕ). getD image x 0xFF) there
 
 -- An image whose bytes have been seen stands there.
-seen-stands : (chip image : List ℕ) (place count : ℕ) → ((j : ℕ) → j < count → getD chip (place + j) 0 ≡ getD image j 0xFF) → length image ≤ count → place + count ≤ length chip → Stands chip place image
+seen-stands : (chip image : List ℕ) (place count : ℕ) → ((j : ℕ) → j < count → getD chip (place + j) 0 ≡ getD image j 0xFF) → length image ≤ count → place + count ≤ length chip → ContainsAt chip place image
 seen-stands chip image place count seen short fits = record {
   fits = omega arith;
   same = λ i h. seen i (omega arith) ∙ getD-any image i 0xFF 0 h;
 }
 
 -- What stands in the update area stays when the bytes there do.
-stands-stay : (chip after : List ℕ) (place : ℕ) (image : List ℕ) → length after ≡ length chip → ((i : ℕ) → place ≤ i → getD after i 0 ≡ getD chip i 0) → Stands chip place image → Stands after place image
-stands-stay chip after place image l same stands = record {
-  fits = rw l (stands .fits);
-  same = λ i h. same (place + i) (omega arith) ∙ stands .same i h;
+stands-stay : (chip after : List ℕ) (place : ℕ) (image : List ℕ) → length after ≡ length chip → ((i : ℕ) → place ≤ i → getD after i 0 ≡ getD chip i 0) → ContainsAt chip place image → ContainsAt after place image
+stands-stay chip after place image l same contained = record {
+  fits = rw l (contained .fits);
+  same = λ i h. same (place + i) (omega arith) ∙ contained .same i h;
 }
 
--- A look that agrees has read what must stand.
+-- A look that agrees has read what is expected.
 agrees-read : (place : ℕ) (bytes chip : List ℕ) → place + length bytes ≤ length chip → agrees (look place bytes) chip ≡ true → span chip place (length bytes) ≡ bytes
 unfolding agrees
 agrees-read place bytes chip h e = go (differs place (span chip place (length bytes)) bytes) refl e
@@ -138,7 +134,7 @@ agrees-read place bytes chip h e = go (differs place (span chip place (length by
     go none q r = none-same place (span chip place (length bytes)) bytes (span-length chip place (length bytes) h) q
     go (some address) q r = absurd (false-true r)
 
-module _ (kind : Kind) (lawful : Lawful kind) (update : ℕ) (area : List ℕ) where
+module _ (kind : Kind) (lawful : Lawful kind) (updatePlace : ℕ) (firstGolden : List ℕ) where
   -- The world after an order of a phase.
   abbrev carriedRun : Run → Run
   carriedRun run = record { state = run .state; image = run .image; carried = true }
@@ -154,30 +150,30 @@ module _ (kind : Kind) (lawful : Lawful kind) (update : ℕ) (area : List ℕ) w
   unfolding carryOut
   carried-out order phase left run w o p = rw (o, p) refl
 
-  module _ (w : World) (inv : Invariant kind update area w) (run : Run) (holds : Holds kind update run w) (ran : running (run .state) ≡ true) (left : List ℕ) where
+  module _ (w : World) (inv : Invariant kind updatePlace firstGolden w) (run : Run) (holds : Holds kind updatePlace run w) (ran : running (run .state) ≡ true) (left : List ℕ) where
     fitted : fits (run .state) (length (run .image)) ≡ true
     fitted = holds .fitted ran
 
-    numbers : Numbers (run .state .layout) (run .state .length)
+    numbers : Numbers (run .state .layout) (run .state .«image_length»)
     numbers = fits-says (run .state) (length (run .image)) fitted .numbers
 
     -- The layout's numbers, on this chip.
-    bounds : (12288 ≤ update) × (update + run .state .layout .area ≤ length (w .chip)) × (run .state .layout .area % 4096 ≡ 0)
+    bounds : (12288 ≤ updatePlace) × (updatePlace + run .state .layout .«update_length» ≤ length (w .chip)) × (run .state .layout .«update_length» % 4096 ≡ 0)
     bounds =
-        let a = area-allowed (run .state .layout .length) (run .state .layout .update) (run .state .layout .area) (numbers .spans) in
-        let u = update-allowed (run .state .layout .length) (run .state .layout .update) (numbers .starts) in
+        let a = update-length-range (run .state .layout .«chip_length») (run .state .layout .«update_place») (run .state .layout .«update_length») (numbers .spans) in
+        let u = update-place-range (run .state .layout .«chip_length») (run .state .layout .«update_place») (numbers .starts) in
         let l = holds .long in
         let p = holds .place in
         (omega arith, omega arith, a .0)
 
-    index : run .state .index < count (run .state .layout) (run .state .length) (run .state .phase)
+    index : run .state .index < count (run .state .layout) (run .state .«image_length») (run .state .phase)
     index = running-says (run .state) (length (run .image)) fitted ran .1
 
     stage-at : (phase : ℕ) → run .state .phase ≡ phase → Stage phase run w
     stage-at phase p = subst (λ (q : ℕ). Stage q run w) p (holds .stage)
 
-    index-at : (phase : ℕ) → run .state .phase ≡ phase → run .state .index < count (run .state .layout) (run .state .length) phase
-    index-at phase p = subst (λ (q : ℕ). run .state .index < count (run .state .layout) (run .state .length) q) p index
+    index-at : (phase : ℕ) → run .state .phase ≡ phase → run .state .index < count (run .state .layout) (run .state .«image_length») phase
+    index-at phase p = subst (λ (q : ℕ). run .state .index < count (run .state .layout) (run .state .«image_length») q) p index
 
     order-at : (phase : ℕ) → run .state .phase ≡ phase → orderOfRun kind run ≡ orderOf kind (run .state .layout) (run .image) phase (run .state .index)
     order-at phase p = current-order kind (run .state) (run .image) fitted ran ∙ ap (λ (q : ℕ). orderOf kind (run .state .layout) (run .image) q (run .state .index)) p
@@ -187,7 +183,7 @@ module _ (kind : Kind) (lawful : Lawful kind) (update : ℕ) (area : List ℕ) w
     worldAfter chip looks ordered image = record { chip = chip; run = some (carriedRun run); looks = looks; ordered = ordered; image = image }
 
     -- The run goes on holding, in the same phase.
-    still-holds : (after : World) (phase : ℕ) → run .state .phase ≡ phase → length (after .chip) ≡ length (w .chip) → Stage phase (carriedRun run) after → Holds kind update (carriedRun run) after
+    still-holds : (after : World) (phase : ℕ) → run .state .phase ≡ phase → length (after .chip) ≡ length (w .chip) → Stage phase (carriedRun run) after → Holds kind updatePlace (carriedRun run) after
     still-holds after phase p l stage = record {
       fitted = holds .fitted;
       long = holds .long ∙ sym l;
@@ -197,32 +193,32 @@ module _ (kind : Kind) (lawful : Lawful kind) (update : ℕ) (area : List ℕ) w
     }
 
     -- PHASE 0: an erase of segment 0. The switch can only go off.
-    erases-switch : run .state .phase ≡ 0 → MayLeave (w .chip) 0 (erased segment) left → Invariant kind update area (worldAfter (over (w .chip) 0 left) (w .looks) (w .ordered) (w .image))
+    erases-switch : run .state .phase ≡ 0 → MayLeave (w .chip) 0 (erased segment) left → Invariant kind updatePlace firstGolden (worldAfter (overwrite (w .chip) 0 left) (w .looks) (w .ordered) (w .image))
     unfolding onRun Stage byPhase
     erases-switch p may = record {
-      good = kept .0;
-      golden = golden-stays kind update (w .chip) (inv .good) (over (w .chip) 0 left) stays (λ i a b. outside i a) ∙ inv .golden;
+      formed = kept .0;
+      golden = golden-stays kind updatePlace (w .chip) (inv .formed) (overwrite (w .chip) 0 left) stays (λ i a b. outside i a) ∙ inv .golden;
       image = λ on. standing on (isOn kind w) refl;
       found = λ f o. absurd (let e = eqb-true (w .looks) 16 f in let z : w .looks ≡ 0 = stage-at 0 p in omega arith);
-      run = still-holds (worldAfter (over (w .chip) 0 left) (w .looks) (w .ordered) (w .image)) 0 p stays (stage-at 0 p);
+      run = still-holds (worldAfter (overwrite (w .chip) 0 left) (w .looks) (w .ordered) (w .image)) 0 p stays (stage-at 0 p);
     }
       where
         all : length left ≡ segment
         all = may .fills ∙ erased-length segment
 
         fit : 0 + length left ≤ length (w .chip)
-        fit = let l = length-allowed (length (w .chip)) (inv .good .long) in omega (arith, all)
+        fit = let l = chip-length-range (length (w .chip)) (inv .formed .long) in omega (arith, all)
 
-        stays : length (over (w .chip) 0 left) ≡ length (w .chip)
-        stays = over-length (w .chip) 0 left fit
+        stays : length (overwrite (w .chip) 0 left) ≡ length (w .chip)
+        stays = overwrite-length (w .chip) 0 left fit
 
-        outside : (i : ℕ) → segment ≤ i → getD (over (w .chip) 0 left) i 0 ≡ getD (w .chip) i 0
-        outside i a = over-after (w .chip) 0 left fit i 0 (omega (arith, all))
+        outside : (i : ℕ) → segment ≤ i → getD (overwrite (w .chip) 0 left) i 0 ≡ getD (w .chip) i 0
+        outside i a = overwrite-after (w .chip) 0 left fit i 0 (omega (arith, all))
 
-        kept : Good kind update (over (w .chip) 0 left) × Covers (switchWord (over (w .chip) 0 left)) (switchWord (w .chip))
-        kept = erase-good kind update (w .chip) (inv .good) left may
+        kept : WellFormed kind updatePlace (overwrite (w .chip) 0 left) × BitSuperset (switchWord (overwrite (w .chip) 0 left)) (switchWord (w .chip))
+        kept = erase-well-formed kind updatePlace (w .chip) (inv .formed) left may
 
-        standing : kind .isOn (switchWord (over (w .chip) 0 left)) ≡ true → (b : Bool) → isOn kind w ≡ b → Standing kind update (worldAfter (over (w .chip) 0 left) (w .looks) (w .ordered) (w .image))
+        standing : kind .isOn (switchWord (overwrite (w .chip) 0 left)) ≡ true → (b : Bool) → isOn kind w ≡ b → OrderedImageInPlace kind updatePlace (worldAfter (overwrite (w .chip) 0 left) (w .looks) (w .ordered) (w .image))
         standing on true e =
             let s = inv .image e in
             record {
@@ -230,83 +226,83 @@ module _ (kind : Kind) (lawful : Lawful kind) (update : ℕ) (area : List ℕ) w
               ordered = s .ordered;
               some-bytes = s .some-bytes;
               alone = s .alone;
-              stands = stands-stay (w .chip) (over (w .chip) 0 left) update (s .image) stays (λ i a. outside i (let b = bounds in omega arith)) (s .stands);
+              contained = stands-stay (w .chip) (overwrite (w .chip) 0 left) updatePlace (s .image) stays (λ i a. outside i (let b = bounds in omega arith)) (s .contained);
             }
-        standing on false e = absurd (false-true (sym (lawful .stays-off (switchWord (w .chip)) (switchWord (over (w .chip) 0 left)) (inv .good .switch) (kept .1) e) ∙ on))
+        standing on false e = absurd (false-true (sym (lawful .stays-off (switchWord (w .chip)) (switchWord (overwrite (w .chip) 0 left)) (inv .formed .switch) (kept .1) e) ∙ on))
 
     -- PHASES 2 and 3: anything in the update area, while the switch word is erased.
-    writes-area : (phase place : ℕ) → run .state .phase ≡ phase → update ≤ place → place + length left ≤ length (w .chip) → Erased w →
-        (Erased (worldAfter (over (w .chip) place left) (w .looks) (w .ordered) (w .image)) → Stage phase (carriedRun run) (worldAfter (over (w .chip) place left) (w .looks) (w .ordered) (w .image))) →
-        Invariant kind update area (worldAfter (over (w .chip) place left) (w .looks) (w .ordered) (w .image))
+    writes-area : (phase place : ℕ) → run .state .phase ≡ phase → updatePlace ≤ place → place + length left ≤ length (w .chip) → Erased w →
+        (Erased (worldAfter (overwrite (w .chip) place left) (w .looks) (w .ordered) (w .image)) → Stage phase (carriedRun run) (worldAfter (overwrite (w .chip) place left) (w .looks) (w .ordered) (w .image))) →
+        Invariant kind updatePlace firstGolden (worldAfter (overwrite (w .chip) place left) (w .looks) (w .ordered) (w .image))
     unfolding onRun
     writes-area phase place p far fit blank stage = record {
-      good = area-good kind update (w .chip) (inv .good) place left far fit;
-      golden = golden-stays kind update (w .chip) (inv .good) (over (w .chip) place left) stays (λ i a b. over-before (w .chip) place left fit i 0 (omega arith)) ∙ inv .golden;
+      formed = area-well-formed kind updatePlace (w .chip) (inv .formed) place left far fit;
+      golden = golden-stays kind updatePlace (w .chip) (inv .formed) (overwrite (w .chip) place left) stays (λ i a b. overwrite-before (w .chip) place left fit i 0 (omega arith)) ∙ inv .golden;
       image = λ on. absurd (false-true (sym (ap (kind .isOn) still ∙ lawful .erased-off) ∙ on));
       found = λ f o. still;
-      run = still-holds (worldAfter (over (w .chip) place left) (w .looks) (w .ordered) (w .image)) phase p stays (stage still);
+      run = still-holds (worldAfter (overwrite (w .chip) place left) (w .looks) (w .ordered) (w .image)) phase p stays (stage still);
     }
       where
-        stays : length (over (w .chip) place left) ≡ length (w .chip)
-        stays = over-length (w .chip) place left fit
+        stays : length (overwrite (w .chip) place left) ≡ length (w .chip)
+        stays = overwrite-length (w .chip) place left fit
 
-        still : switchWord (over (w .chip) place left) ≡ erased 4
-        still = area-switch kind update (w .chip) (inv .good) place left far fit ∙ blank
+        still : switchWord (overwrite (w .chip) place left) ≡ erased 4
+        still = area-switch kind updatePlace (w .chip) (inv .formed) place left far fit ∙ blank
 
     -- PHASES 1, 4 and 6: a look changes nothing.
     looks-on : (phase looks : ℕ) → run .state .phase ≡ phase → (eqb looks 16 ≡ true → w .ordered ≡ false → Erased w) →
-        Stage phase (carriedRun run) (worldAfter (w .chip) looks (w .ordered) (w .image)) → Invariant kind update area (worldAfter (w .chip) looks (w .ordered) (w .image))
+        Stage phase (carriedRun run) (worldAfter (w .chip) looks (w .ordered) (w .image)) → Invariant kind updatePlace firstGolden (worldAfter (w .chip) looks (w .ordered) (w .image))
     unfolding onRun
     looks-on phase looks p found stage = record {
-      good = inv .good;
+      formed = inv .formed;
       golden = inv .golden;
-      image = λ on. let s = inv .image on in record { image = s .image; ordered = s .ordered; some-bytes = s .some-bytes; alone = s .alone; stands = s .stands };
+      image = λ on. let s = inv .image on in record { image = s .image; ordered = s .ordered; some-bytes = s .some-bytes; alone = s .alone; contained = s .contained };
       found = found;
       run = still-holds (worldAfter (w .chip) looks (w .ordered) (w .image)) phase p refl stage;
     }
 
     -- PHASE 5: a program of the switch word. The run's image stands at U, and is now the ordered one.
     switches-on : run .state .phase ≡ 5 → run .carried ≡ false → MayLeave (w .chip) switchAt (afterProgram (w .chip) switchAt (kind .on)) left →
-        Invariant kind update area (worldAfter (over (w .chip) switchAt left) (w .looks) true (some (run .image)))
+        Invariant kind updatePlace firstGolden (worldAfter (overwrite (w .chip) switchAt left) (w .looks) true (some (run .image)))
     unfolding onRun Stage byPhase
     switches-on p once may = record {
-      good = program-good kind update (w .chip) (inv .good) (lawful .four) left may;
-      golden = golden-stays kind update (w .chip) (inv .good) (over (w .chip) switchAt left) stays (λ i a b. outside i a) ∙ inv .golden;
+      formed = program-well-formed kind updatePlace (w .chip) (inv .formed) (lawful .four) left may;
+      golden = golden-stays kind updatePlace (w .chip) (inv .formed) (overwrite (w .chip) switchAt left) stays (λ i a b. outside i a) ∙ inv .golden;
       image = λ on. record {
         image = run .image;
         ordered = refl;
-        some-bytes = (let n = numbers-image (run .state .layout) (run .state .length) numbers in let s = fits-says (run .state) (length (run .image)) fitted .same in omega arith);
+        some-bytes = (let n = numbers-image (run .state .layout) (run .state .«image_length») numbers in let s = fits-says (run .state) (length (run .image)) fitted .same in omega arith);
         alone = holds .alone;
-        stands = stands-stay (w .chip) (over (w .chip) switchAt left) update (run .image) stays (λ i a. outside i (let b = bounds in omega arith)) stands;
+        contained = stands-stay (w .chip) (overwrite (w .chip) switchAt left) updatePlace (run .image) stays (λ i a. outside i (let b = bounds in omega arith)) contained;
       };
       found = λ f o. absurd (false-true (sym o));
-      run = still-holds (worldAfter (over (w .chip) switchAt left) (w .looks) true (some (run .image))) 5 p stays (λ q. absurd (false-true (sym q)));
+      run = still-holds (worldAfter (overwrite (w .chip) switchAt left) (w .looks) true (some (run .image))) 5 p stays (λ q. absurd (false-true (sym q)));
     }
       where
-        known : Erased w × Seen run w (run .state .layout .area)
+        known : Erased w × Seen run w (run .state .layout .«update_length»)
         known = (stage-at 5 p) once
 
         old-length : length (span (w .chip) switchAt (length (kind .on))) ≡ length (kind .on)
-        old-length = span-length (w .chip) switchAt (length (kind .on)) (let l = length-allowed (length (w .chip)) (inv .good .long) in let f = lawful .four in omega arith)
+        old-length = span-length (w .chip) switchAt (length (kind .on)) (let l = chip-length-range (length (w .chip)) (inv .formed .long) in let f = lawful .four in omega arith)
 
         all : length left ≡ 4
         all = may .fills ∙ cleared-length (span (w .chip) switchAt (length (kind .on))) (kind .on) old-length ∙ lawful .four
 
         fit : switchAt + length left ≤ length (w .chip)
-        fit = let l = length-allowed (length (w .chip)) (inv .good .long) in omega (arith, all)
+        fit = let l = chip-length-range (length (w .chip)) (inv .formed .long) in omega (arith, all)
 
-        stays : length (over (w .chip) switchAt left) ≡ length (w .chip)
-        stays = over-length (w .chip) switchAt left fit
+        stays : length (overwrite (w .chip) switchAt left) ≡ length (w .chip)
+        stays = overwrite-length (w .chip) switchAt left fit
 
-        outside : (i : ℕ) → segment ≤ i → getD (over (w .chip) switchAt left) i 0 ≡ getD (w .chip) i 0
-        outside i a = over-after (w .chip) switchAt left fit i 0 (omega (arith, all))
+        outside : (i : ℕ) → segment ≤ i → getD (overwrite (w .chip) switchAt left) i 0 ≡ getD (w .chip) i 0
+        outside i a = overwrite-after (w .chip) switchAt left fit i 0 (omega (arith, all))
 
-        stands : Stands (w .chip) update (run .image)
-        stands =
+        contained : ContainsAt (w .chip) updatePlace (run .image)
+        contained =
             let b = bounds in
-            let n = numbers-image (run .state .layout) (run .state .length) numbers in
+            let n = numbers-image (run .state .layout) (run .state .«image_length») numbers in
             let s = fits-says (run .state) (length (run .image)) fitted .same in
-            seen-stands (w .chip) (run .image) update (run .state .layout .area) (rw (holds .place) at (known .1)) (omega arith) (b .1)
+            seen-stands (w .chip) (run .image) updatePlace (run .state .layout .«update_length») (rw (holds .place) at (known .1)) (omega arith) (b .1)
 
     -- Looks of phase 1 before this one.
     before-look : run .state .phase ≡ 1 → run .carried ≡ false → w .looks ≤ run .state .index
@@ -317,7 +313,7 @@ module _ (kind : Kind) (lawful : Lawful kind) (update : ℕ) (area : List ℕ) w
 
     -- A look of phase 1 that is counted read FF; the 16th is the one at the switch word.
     looks-at-switch : run .state .phase ≡ 1 → run .carried ≡ false → (b : Bool) → agrees (look (page * run .state .index) (erased page)) (w .chip) ≡ b →
-        Invariant kind update area (worldAfter (w .chip) (lookSeen b (w .looks)) (w .ordered) (w .image))
+        Invariant kind updatePlace firstGolden (worldAfter (w .chip) (lookSeen b (w .looks)) (w .ordered) (w .image))
     unfolding Stage byPhase lookSeen count
     looks-at-switch p once true e =
         looks-on 1 (w .looks + 1) p
@@ -325,7 +321,7 @@ module _ (kind : Kind) (lawful : Lawful kind) (update : ℕ) (area : List ℕ) w
         let n = eqb-true (w .looks + 1) 16 f in
         let i : run .state .index < 16 = index-at 1 p in
         let l : length (w .chip) ≡ length (w .chip) = refl in
-        let c = length-allowed (length (w .chip)) (inv .good .long) in
+        let c = chip-length-range (length (w .chip)) (inv .formed .long) in
         let last : page * run .state .index ≡ 3840 = (let s = before-look p once in omega arith) in
         let whole : length (erased page) ≡ page = erased-length page in
         page-erased (w .chip) (omega arith) (rw (last, whole) at (agrees-read (page * run .state .index) (erased page) (w .chip) (omega arith) e)))
@@ -333,37 +329,37 @@ module _ (kind : Kind) (lawful : Lawful kind) (update : ℕ) (area : List ℕ) w
     looks-at-switch p once false e = looks-on 1 (w .looks) p (inv .found) (let s = before-look p once in omega arith)
 
     -- A page of the image ends within the update area.
-    page-within : run .state .phase ≡ 3 → page * run .state .index + length (pageOf (run .image) (run .state .index)) ≤ run .state .layout .area
+    page-within : run .state .phase ≡ 3 → page * run .state .index + length (pageOf (run .image) (run .state .index)) ≤ run .state .layout .«update_length»
     page-within p =
-        let i = image-pages (run .state .layout) (run .state .length) (run .state .index) (index-at 3 p) in
-        let n = numbers-image (run .state .layout) (run .state .length) numbers in
+        let i = image-pages (run .state .layout) (run .state .«image_length») (run .state .index) (index-at 3 p) in
+        let n = numbers-image (run .state .layout) (run .state .«image_length») numbers in
         let s = fits-says (run .state) (length (run .image)) fitted .same in
         let t = length-take page (drop (page * run .state .index) (run .image)) in
         let d = length-drop (page * run .state .index) (run .image) in
         omega arith
 
     -- Whatever the order is, and whatever it may leave.
-    carries-on : MayOrder kind left run w → Invariant kind update area (carryOut (orderOfRun kind run) left run w)
-    unfolding orderOf byPhase MayBeLeft obeyedSpan leaves lookSeen orderedImage Stage count
+    carries-on : AdmissibleOrder kind left run w → Invariant kind updatePlace firstGolden (carryOut (orderOfRun kind run) left run w)
+    unfolding orderOf byPhase AdmissibleSpan obeyedSpan leaves lookSeen orderedImage Stage count
     carries-on may =
-        phases (λ (p : ℕ). run .state .phase ≡ p → Invariant kind update area (carryOut (orderOfRun kind run) left run w))
+        phases (λ (p : ℕ). run .state .phase ≡ p → Invariant kind updatePlace firstGolden (carryOut (orderOfRun kind run) left run w))
         (λ p. comes (erase 0 segment) 0 (order-at 0 p) p (erases-switch p (left-by (erase 0 segment) (order-at 0 p))))
         (λ p.
         let o = look (page * run .state .index) (erased page) in
         comes o 1 (order-at 1 p) p (looks-at-switch p (may .once) (agrees o (w .chip)) refl))
         (λ p.
         let b = bounds in
-        let o = erase (run .state .layout .update + segment * run .state .index) segment in
+        let o = erase (run .state .layout .«update_place» + segment * run .state .index) segment in
         let m = left-by o (order-at 2 p) in
         let l = may .leaves in
         comes o 2 (order-at 2 p) p
-        (writes-area 2 (run .state .layout .update + segment * run .state .index) p
+        (writes-area 2 (run .state .layout .«update_place» + segment * run .state .index) p
         (let q = holds .place in omega arith)
-        (let q = holds .place in let n = m .fills ∙ erased-length segment in let i = area-segments (run .state .layout) (run .state .length) (run .state .index) (index-at 2 p) in omega arith)
+        (let q = holds .place in let n = m .fills ∙ erased-length segment in let i = area-segments (run .state .layout) (run .state .«image_length») (run .state .index) (index-at 2 p) in omega arith)
         (stage-at 2 p) (λ e. e)))
         (λ p.
         let b = bounds in
-        let at = run .state .layout .update + page * run .state .index in
+        let at = run .state .layout .«update_place» + page * run .state .index in
         let o = program at (pageOf (run .image) (run .state .index)) in
         let m = left-by o (order-at 3 p) in
         let q = holds .place in
@@ -372,39 +368,39 @@ module _ (kind : Kind) (lawful : Lawful kind) (update : ℕ) (area : List ℕ) w
         (writes-area 3 at p (omega arith)
         (let l = m .fills ∙ cleared-length (span (w .chip) at (length (pageOf (run .image) (run .state .index)))) (pageOf (run .image) (run .state .index)) (span-length (w .chip) at (length (pageOf (run .image) (run .state .index))) (omega arith)) in omega arith)
         (stage-at 3 p) (λ e. e)))
-        (λ p. comes (look (run .state .layout .update + page * run .state .index) (filled page (pageOf (run .image) (run .state .index)))) 4 (order-at 4 p) p (looks-on 4 (w .looks) p (inv .found) (stage-at 4 p)))
+        (λ p. comes (look (run .state .layout .«update_place» + page * run .state .index) (padded page (pageOf (run .image) (run .state .index)))) 4 (order-at 4 p) p (looks-on 4 (w .looks) p (inv .found) (stage-at 4 p)))
         (λ p. comes (program switchAt (kind .on)) 5 (order-at 5 p) p (switches-on p (may .once) (left-by (program switchAt (kind .on)) (order-at 5 p))))
         (λ p. comes (look switchAt (kind .on)) 6 (order-at 6 p) p (looks-on 6 (w .looks) p (inv .found) tt))
         (run .state .phase) (running-says (run .state) (length (run .image)) fitted ran .0) refl
       where
-        left-by : (o : Order) → orderOfRun kind run ≡ o → MayBeLeft o (w .chip) left
-        left-by o q = subst (λ (x : Order). MayBeLeft x (w .chip) left) q (may .leaves)
+        left-by : (o : Order) → orderOfRun kind run ≡ o → AdmissibleSpan o (w .chip) left
+        left-by o q = subst (λ (x : Order). AdmissibleSpan x (w .chip) left) q (may .leaves)
 
         comes : (o : Order) (phase : ℕ) → orderOfRun kind run ≡ o → run .state .phase ≡ phase →
-            Invariant kind update area (worldAfter (leaves o (w .chip) left) (lookSeen (eqb phase 1 && agrees o (w .chip)) (w .looks)) (eqb phase 5 || w .ordered) (orderedImage (eqb phase 5) (run .image) (w .image))) →
-            Invariant kind update area (carryOut (orderOfRun kind run) left run w)
-        comes o phase q p i = subst (Invariant kind update area) (sym (carried-out o phase left run w q p)) i
+            Invariant kind updatePlace firstGolden (worldAfter (leaves o (w .chip) left) (lookSeen (eqb phase 1 && agrees o (w .chip)) (w .looks)) (eqb phase 5 || w .ordered) (orderedImage (eqb phase 5) (run .image) (w .image))) →
+            Invariant kind updatePlace firstGolden (carryOut (orderOfRun kind run) left run w)
+        comes o phase q p i = subst (Invariant kind updatePlace firstGolden) (sym (carried-out o phase left run w q p)) i
 
   -- REPLIES. The world with the state that was handed back.
-  module _ (w : World) (inv : Invariant kind update area w) (run : Run) (holds : Holds kind update run w) where
+  module _ (w : World) (inv : Invariant kind updatePlace firstGolden w) (run : Run) (holds : Holds kind updatePlace run w) where
     abbrev runAt : State → Run
     runAt state = record { state = state; image = run .image; carried = false }
 
     abbrev worldAt : State → World
     worldAt state = record { chip = w .chip; run = some (runAt state); looks = w .looks; ordered = w .ordered; image = w .image }
 
-    goes-on : (state : State) → Holds kind update (runAt state) (worldAt state) → Invariant kind update area (worldAt state)
+    goes-on : (state : State) → Holds kind updatePlace (runAt state) (worldAt state) → Invariant kind updatePlace firstGolden (worldAt state)
     unfolding onRun
     goes-on state h = record {
-      good = inv .good;
+      formed = inv .formed;
       golden = inv .golden;
-      image = λ on. let s = inv .image on in record { image = s .image; ordered = s .ordered; some-bytes = s .some-bytes; alone = s .alone; stands = s .stands };
+      image = λ on. let s = inv .image on in record { image = s .image; ordered = s .ordered; some-bytes = s .some-bytes; alone = s .alone; contained = s .contained };
       found = inv .found;
       run = h;
     }
 
     -- A stop ends the run.
-    stopped-holds : (outcome : ℕ) → Holds kind update (runAt (ended (run .state) outcome)) (worldAt (ended (run .state) outcome))
+    stopped-holds : (outcome : ℕ) → Holds kind updatePlace (runAt (ended (run .state) outcome)) (worldAt (ended (run .state) outcome))
     unfolding Stage byPhase
     stopped-holds outcome = record {
       fitted = λ r. absurd (let l = ltb-true 7 7 r in omega arith);
@@ -414,25 +410,25 @@ module _ (kind : Kind) (lawful : Lawful kind) (update : ℕ) (area : List ℕ) w
       stage = tt;
     }
 
-    -- A reply that moves it on: its order was carried out, and a look read what must stand.
-    module _ (said : ℕ) (bytes : List ℕ) (moves : Moved kind (run .state) (run .image) said bytes (after (run .state))) (honest : Honest kind (run .image) bytes run w) where
+    -- A reply that moves it on: its order was carried out, and a look read what is expected.
+    module _ (replyKind : ℕ) (bytes : List ℕ) (moves : Moved kind (run .state) (run .image) replyKind bytes (after (run .state))) (honest : TruthfulReply kind (run .image) bytes run w) where
       abbrev s : State
       s = run .state
 
       fit : fits s (length (run .image)) ≡ true
       fit = moves .fitted
 
-      index-of : (phase : ℕ) → s .phase ≡ phase → s .index < count (s .layout) (s .length) phase
-      index-of phase p = subst (λ (q : ℕ). s .index < count (s .layout) (s .length) q) p (running-says s (length (run .image)) fit (moves .ran) .1)
+      index-of : (phase : ℕ) → s .phase ≡ phase → s .index < count (s .layout) (s .«image_length») phase
+      index-of phase p = subst (λ (q : ℕ). s .index < count (s .layout) (s .«image_length») q) p (running-says s (length (run .image)) fit (moves .ran) .1)
 
       stage-of : (phase : ℕ) → s .phase ≡ phase → Stage phase run w
       stage-of phase p = subst (λ (q : ℕ). Stage q run w) p (holds .stage)
 
-      was-read : (place : ℕ) (must : List ℕ) → orderOfRun kind run ≡ look place must → span (w .chip) place (length must) ≡ must
+      was-read : (place : ℕ) (expected : List ℕ) → orderOfRun kind run ≡ look place expected → span (w .chip) place (length expected) ≡ expected
       unfolding Replies TrueRead
-      was-read place must o =
-          let r : (said ≡ 1) × (bytes ≡ must) = subst (λ (x : Order). Replies x said bytes) o (moves .replied) in
-          let t : bytes ≡ span (w .chip) place (length must) = subst (λ (x : Order). TrueRead x (w .chip) bytes) o (honest .reads) in
+      was-read place expected o =
+          let r : (replyKind ≡ 1) × (bytes ≡ expected) = subst (λ (x : Order). Replies x replyKind bytes) o (moves .replied) in
+          let t : bytes ≡ span (w .chip) place (length expected) = subst (λ (x : Order). TrueRead x (w .chip) bytes) o (honest .reads) in
           sym t ∙ r .1
 
       order-of : (phase : ℕ) → s .phase ≡ phase → orderOfRun kind run ≡ orderOf kind (s .layout) (run .image) phase (s .index)
@@ -446,9 +442,9 @@ module _ (kind : Kind) (lawful : Lawful kind) (update : ℕ) (area : List ℕ) w
       one-more : s .phase ≡ 4 → Seen run w (page * (s .index + 1))
       unfolding orderOf byPhase Stage
       one-more p =
-          let l : length (filled page (pageOf (run .image) (s .index))) ≡ page = filled-length page (pageOf (run .image) (s .index)) (let t = length-take page (drop (page * s .index) (run .image)) in omega arith) in
-          page-seen (w .chip) (run .image) (s .layout .update) (s .index)
-          (rw l at (was-read (s .layout .update + page * s .index) (filled page (pageOf (run .image) (s .index))) (order-of 4 p)))
+          let l : length (padded page (pageOf (run .image) (s .index))) ≡ page = padded-length page (pageOf (run .image) (s .index)) (let t = length-take page (drop (page * s .index) (run .image)) in omega arith) in
+          page-seen (w .chip) (run .image) (s .layout .«update_place») (s .index)
+          (rw l at (was-read (s .layout .«update_place» + page * s .index) (padded page (pageOf (run .image) (s .index))) (order-of 4 p)))
           (stage-of 4 p .1)
 
       looked : s .phase ≡ 1 → w .looks ≤ s .index + 1
@@ -457,15 +453,15 @@ module _ (kind : Kind) (lawful : Lawful kind) (update : ℕ) (area : List ℕ) w
 
       -- the next state, in its phase or at the beginning of the next
       abbrev nextIndex : State
-      nextIndex = record { layout = s .layout; length = s .length; phase = s .phase; index = s .index + 1; outcome = s .outcome }
+      nextIndex = record { layout = s .layout; «image_length» = s .«image_length»; phase = s .phase; index = s .index + 1; outcome = s .outcome }
 
       abbrev nextPhase : State
-      nextPhase = record { layout = s .layout; length = s .length; phase = s .phase + 1; index = 0; outcome = s .outcome }
+      nextPhase = record { layout = s .layout; «image_length» = s .«image_length»; phase = s .phase + 1; index = 0; outcome = s .outcome }
 
-      index-stage : s .index + 1 < count (s .layout) (s .length) (s .phase) → Stage (s .phase) (runAt nextIndex) (worldAt nextIndex)
+      index-stage : s .index + 1 < count (s .layout) (s .«image_length») (s .phase) → Stage (s .phase) (runAt nextIndex) (worldAt nextIndex)
       unfolding Stage byPhase count
       index-stage h =
-          phases (λ (q : ℕ). s .phase ≡ q → s .index + 1 < count (s .layout) (s .length) q → Stage q (runAt nextIndex) (worldAt nextIndex))
+          phases (λ (q : ℕ). s .phase ≡ q → s .index + 1 < count (s .layout) (s .«image_length») q → Stage q (runAt nextIndex) (worldAt nextIndex))
           (λ p m. absurd (let l : s .index + 1 < 1 = m in omega arith))
           (λ p m. let l = looked p in omega arith)
           (λ p m. stage-of 2 p)
@@ -475,20 +471,20 @@ module _ (kind : Kind) (lawful : Lawful kind) (update : ℕ) (area : List ℕ) w
           (λ p m. tt)
           (s .phase) (ltb-true (s .phase) 7 (moves .ran)) refl h
 
-      phase-stage : count (s .layout) (s .length) (s .phase) ≤ s .index + 1 → Stage (s .phase + 1) (runAt nextPhase) (worldAt nextPhase)
+      phase-stage : count (s .layout) (s .«image_length») (s .phase) ≤ s .index + 1 → Stage (s .phase + 1) (runAt nextPhase) (worldAt nextPhase)
       unfolding Stage byPhase count
       phase-stage h =
-          phases (λ (q : ℕ). s .phase ≡ q → count (s .layout) (s .length) q ≤ s .index + 1 → Stage (q + 1) (runAt nextPhase) (worldAt nextPhase))
+          phases (λ (q : ℕ). s .phase ≡ q → count (s .layout) (s .«image_length») q ≤ s .index + 1 → Stage (q + 1) (runAt nextPhase) (worldAt nextPhase))
           (λ p m. let z : w .looks ≡ 0 = stage-of 0 p in omega arith)
           (λ p m.
           let i : s .index < 16 = index-of 1 p in
           let l : 16 ≤ s .index + 1 = m in
           let last : page * s .index ≡ 3840 = omega arith in
-          let c = length-allowed (length (w .chip)) (inv .good .long) in
+          let c = chip-length-range (length (w .chip)) (inv .formed .long) in
           page-erased (w .chip) (omega arith) (rw last at (page-blank p)))
           (λ p m. stage-of 2 p)
           (λ p m. (stage-of 3 p, λ j b. absurd (omega arith)))
-          (λ p m. λ once. (stage-of 4 p .0, λ j b. one-more p j (let l : s .layout .area / page ≤ s .index + 1 = m in let a = area-allowed (s .layout .length) (s .layout .update) (s .layout .area) (fits-says s (length (run .image)) fit .numbers .spans) in omega arith)))
+          (λ p m. λ once. (stage-of 4 p .0, λ j b. one-more p j (let l : s .layout .«update_length» / page ≤ s .index + 1 = m in let a = update-length-range (s .layout .«chip_length») (s .layout .«update_place») (s .layout .«update_length») (fits-says s (length (run .image)) fit .numbers .spans) in omega arith)))
           (λ p m. tt)
           (λ p m. tt)
           (s .phase) (ltb-true (s .phase) 7 (moves .ran)) refl h
@@ -496,47 +492,47 @@ module _ (kind : Kind) (lawful : Lawful kind) (update : ℕ) (area : List ℕ) w
       next-fits : fits (after s) (length (run .image)) ≡ true
       next-fits = after-fits s (length (run .image)) fit (moves .ran)
 
-      moved-on : Invariant kind update area (worldAt (after s))
+      moved-on : Invariant kind updatePlace firstGolden (worldAt (after s))
       moved-on = ⊎-elim
           (λ h. at nextIndex (after-index s h) refl (index-stage h))
           (λ h. at nextPhase (after-phase s h) refl (phase-stage h))
           (last-or-not s)
         where
-          at : (t : State) → after s ≡ t → t .layout ≡ s .layout → Stage (t .phase) (runAt t) (worldAt t) → Invariant kind update area (worldAt (after s))
+          at : (t : State) → after s ≡ t → t .layout ≡ s .layout → Stage (t .phase) (runAt t) (worldAt t) → Invariant kind updatePlace firstGolden (worldAt (after s))
           at t e l stage =
-              subst (λ (x : State). Invariant kind update area (worldAt x)) (sym e)
+              subst (λ (x : State). Invariant kind updatePlace firstGolden (worldAt x)) (sym e)
               (goes-on t
               (record {
                 fitted = λ r. subst (λ (x : State). fits x (length (run .image)) ≡ true) e next-fits;
-                long = ap (λ (x : Layout). x .length) l ∙ holds .long;
-                place = ap (λ (x : Layout). x .update) l ∙ holds .place;
+                long = ap (λ (x : Layout). x .«chip_length») l ∙ holds .long;
+                place = ap (λ (x : Layout). x .«update_place») l ∙ holds .place;
                 alone = holds .alone;
                 stage = stage;
               }))
 
-    replied : (image : List ℕ) (said : ℕ) (bytes : List ℕ) (answer : ReplyAnswer) → replyAnswer kind (run .state) image said bytes ≡ answer → MayReply answer kind image bytes run w → Invariant kind update area (afterReply answer run w)
-    unfolding MayReply afterReply
-    replied image said bytes (Refused number place state) e may = inv
-    replied image said bytes (Stopped number place state) e may =
-        let h = halted kind (run .state) image said bytes number place state e in
-        subst (λ (t : State). Invariant kind update area (worldAt t)) (sym (h .comes)) (goes-on (ended (run .state) (stopOf (run .state .phase))) (stopped-holds (stopOf (run .state .phase))))
-    replied image said bytes (Next state) e may =
-        let own : replyAnswer kind (run .state) (run .image) said bytes ≡ Next state = subst (λ (i : List ℕ). replyAnswer kind (run .state) i said bytes ≡ Next state) (may .same) e in
-        let m = moved kind (run .state) (run .image) said bytes state own in
-        subst (λ (t : State). Invariant kind update area (worldAt t)) (sym (m .comes))
-        (moved-on said bytes (record { fitted = m .fitted; ran = m .ran; replied = m .replied; comes = refl }) (record { carried = may .carried; same = refl; reads = may .reads }))
+    replied : (image : List ℕ) (replyKind : ℕ) (bytes : List ℕ) (answer : ReplyAnswer) → replyAnswer kind (run .state) image replyKind bytes ≡ answer → AdmissibleReply answer kind image bytes run w → Invariant kind updatePlace firstGolden (afterReply answer run w)
+    unfolding AdmissibleReply afterReply
+    replied image replyKind bytes (ReplyRefused number place state) e may = inv
+    replied image replyKind bytes (Stopped number place state) e may =
+        let h = halted kind (run .state) image replyKind bytes number place state e in
+        subst (λ (t : State). Invariant kind updatePlace firstGolden (worldAt t)) (sym (h .comes)) (goes-on (ended (run .state) (stopOf (run .state .phase))) (stopped-holds (stopOf (run .state .phase))))
+    replied image replyKind bytes (Next state) e may =
+        let own : replyAnswer kind (run .state) (run .image) replyKind bytes ≡ Next state = subst (λ (i : List ℕ). replyAnswer kind (run .state) i replyKind bytes ≡ Next state) (may .same) e in
+        let m = moved kind (run .state) (run .image) replyKind bytes state own in
+        subst (λ (t : State). Invariant kind updatePlace firstGolden (worldAt t)) (sym (m .comes))
+        (moved-on replyKind bytes (record { fitted = m .fitted; ran = m .ran; replied = m .replied; comes = refl }) (record { carried = may .carried; same = refl; reads = may .reads }))
 
   -- STARTS. An accepted one opens a run at phase 0.
-  started : (w : World) → Invariant kind update area w → (layout : Layout) (image : List ℕ) (answer : StartAnswer) → startAnswer kind layout image ≡ answer → MayStart answer update layout w → Invariant kind update area (afterStart answer image w)
-  unfolding MayStart afterStart onRun Stage byPhase
+  started : (w : World) → Invariant kind updatePlace firstGolden w → (layout : Layout) (image : List ℕ) (answer : StartAnswer) → startAnswer kind layout image ≡ answer → AdmissibleStart answer updatePlace layout w → Invariant kind updatePlace firstGolden (afterStart answer image w)
+  unfolding AdmissibleStart afterStart onRun Stage byPhase
   started w inv layout image (StartRefused number place) e may = inv
   started w inv layout image (Started state) e may =
       let o = opened kind lawful layout image state e in
-      subst (λ (t : State). Invariant kind update area (afterStart (Started t) image w)) (sym (o .begins))
+      subst (λ (t : State). Invariant kind updatePlace firstGolden (afterStart (Started t) image w)) (sym (o .begins))
       (record {
-        good = inv .good;
+        formed = inv .formed;
         golden = inv .golden;
-        image = λ on. let s = inv .image on in record { image = s .image; ordered = s .ordered; some-bytes = s .some-bytes; alone = s .alone; stands = s .stands };
+        image = λ on. let s = inv .image on in record { image = s .image; ordered = s .ordered; some-bytes = s .some-bytes; alone = s .alone; contained = s .contained };
         found = λ f q. absurd (let z : 0 ≡ 16 = eqb-true 0 16 f in omega arith);
         run = record {
           fitted = λ r. first-fits layout (length image) (o .numbers);
@@ -548,30 +544,30 @@ module _ (kind : Kind) (lawful : Lawful kind) (update : ℕ) (area : List ℕ) w
       })
 
   -- EVERY EVENT that keeps the premises keeps the invariant,
-  keeps : (w : World) → Invariant kind update area w → (event : Event) → May kind update w event → Invariant kind update area (next kind w event)
-  unfolding next May onRun
+  keeps : (w : World) → Invariant kind updatePlace firstGolden w → (event : Event) → Admissible kind updatePlace w event → Invariant kind updatePlace firstGolden (next kind w event)
+  unfolding next Admissible onRun
   keeps w inv (starts layout image) may = started w inv layout image (startAnswer kind layout image) refl may
   keeps w inv (carries left) may = go (w .run) may (inv .run)
     where
-      go : (o : Option Run) → onRun o ⊥ (λ run. MayOrder kind left run w) → onRun o (Unit {0}) (λ run. Holds kind update run w) → Invariant kind update area (onRun o w (λ run. carryOut (orderOfRun kind run) left run w))
+      go : (o : Option Run) → onRun o ⊥ (λ run. AdmissibleOrder kind left run w) → onRun o (Unit {0}) (λ run. Holds kind updatePlace run w) → Invariant kind updatePlace firstGolden (onRun o w (λ run. carryOut (orderOfRun kind run) left run w))
       go none m h = absurd m
       go (some run) m h = carries-on w inv run h (m .asked) left m
-  keeps w inv (replies image said bytes) may = go (w .run) may (inv .run)
+  keeps w inv (replies image replyKind bytes) may = go (w .run) may (inv .run)
     where
-      go : (o : Option Run) → onRun o ⊥ (λ run. MayReply (replyAnswer kind (run .state) image said bytes) kind image bytes run w) → onRun o (Unit {0}) (λ run. Holds kind update run w) →
-          Invariant kind update area (onRun o w (λ run. afterReply (replyAnswer kind (run .state) image said bytes) run w))
+      go : (o : Option Run) → onRun o ⊥ (λ run. AdmissibleReply (replyAnswer kind (run .state) image replyKind bytes) kind image bytes run w) → onRun o (Unit {0}) (λ run. Holds kind updatePlace run w) →
+          Invariant kind updatePlace firstGolden (onRun o w (λ run. afterReply (replyAnswer kind (run .state) image replyKind bytes) run w))
       go none m h = absurd m
-      go (some run) m h = replied w inv run h image said bytes (replyAnswer kind (run .state) image said bytes) refl m
+      go (some run) m h = replied w inv run h image replyKind bytes (replyAnswer kind (run .state) image replyKind bytes) refl m
   keeps w inv cuts may = record {
-    good = inv .good;
+    formed = inv .formed;
     golden = inv .golden;
-    image = λ on. let s = inv .image on in record { image = s .image; ordered = s .ordered; some-bytes = s .some-bytes; alone = s .alone; stands = s .stands };
+    image = λ on. let s = inv .image on in record { image = s .image; ordered = s .ordered; some-bytes = s .some-bytes; alone = s .alone; contained = s .contained };
     found = inv .found;
     run = tt;
   }
 
   -- and so does every list of them.
-  pub lives : (events : List Event) (w : World) → Invariant kind update area w → Valid kind update w events → Invariant kind update area (life kind w events)
+  pub lives : (events : List Event) (w : World) → Invariant kind updatePlace firstGolden w → Valid kind updatePlace w events → Invariant kind updatePlace firstGolden (life kind w events)
   unfolding Valid life
   lives [] w inv valid = inv
   lives (event ∷ events) w inv valid = lives events (next kind w event) (keeps w inv event (valid .0)) (valid .1)

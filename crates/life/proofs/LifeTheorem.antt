@@ -7,16 +7,14 @@ use mathlib.Core.List.{List}
 use native.Mathlib.Omega.{arith}
 use borrow.Author.Tests.{eqb-true}
 use lib.ListN.{length}
-use Rattle.configreader.specs.declared.Outcome.the-variants.{Loaded}
+use Rattle.life.specs.Types.{Loaded, Layout, State, Started}
 use Rattle.base.proofs.Laws.{false-true}
-use Rattle.chip.specs.Layout.{goldenAt}
-use Rattle.chip.specs.Kind.{Kind, goldenArea, Loads, Good, Stands, Lawful}
-use Rattle.chip.specs.declared.kind.Layout.{Layout}
+use Rattle.kind.specs.Layout.{goldenAt}
+use Rattle.kind.specs.Kind.{Kind}
+use Rattle.chip.specs.Chip.{goldenArea, Loads, WellFormed, ContainsAt, Lawful}
 use Rattle.starts.specs.Starts.{startAnswer}
-use Rattle.life.specs.Life.{Run, World, onRun, Event, Valid, life, isOn, uncut, Loading, Updates, OrderedLoads, Claim, Begins, Demand3}
+use Rattle.life.specs.Life.{Run, World, onRun, Event, Valid, life, isOn, uncut, Loading, Updates, OrderedLoads, Claim, LifeBegins, Demand3}
 use Rattle.effects.specs.Effects.{Bytes}
-use Rattle.updater.specs.declared.run.State.{State}
-use Rattle.starts.specs.declared.StartAnswer.the-variants.{Started}
 use Rattle.starts.proofs.Laws.{opened}
 use Rattle.life.proofs.LifeLaws.{Holds, Invariant, lives}
 use Rattle.life.proofs.UncutLaws.{uncut-run}
@@ -39,64 +37,64 @@ loads-reads : (kind : Kind) (chip image : List ℕ) (place : ℕ) (jumped : Bool
 loads-reads kind chip image place jumped l = record { sync = place + l .itself .sync; end = place + l .itself .end; writes = l .itself .writes; reading = l .reading }
 
 -- The claim, in any words for "loads" that a chip's own loading gives and that tell jumped from not.
-module _ (kind : Kind) (lawful : Lawful kind) (update : ℕ) (first : World) (begins : Begins kind update first) (loads : Loading) (golden : List ℕ)
+module _ (kind : Kind) (lawful : Lawful kind) (updatePlace : ℕ) (first : World) (begins : LifeBegins kind updatePlace first) (loads : Loading) (golden : List ℕ)
     (reads : (chip image : List ℕ) (place : ℕ) (jumped : Bool) → loads chip image place jumped → Reads kind chip jumped)
-    (golden-loads : (chip : List ℕ) → Good kind update chip → Loads kind chip (goldenArea update (first .chip)) goldenAt false → loads chip golden goldenAt false)
-    (update-loads : (chip image : List ℕ) → Good kind update chip → 1 ≤ length image → Stands chip update image → Loads kind chip image update true → loads chip image update true) where
-  abbrev area : List ℕ
-  area = goldenArea update (first .chip)
+    (golden-loads : (chip : List ℕ) → WellFormed kind updatePlace chip → Loads kind chip (goldenArea updatePlace (first .chip)) goldenAt false → loads chip golden goldenAt false)
+    (update-loads : (chip image : List ℕ) → WellFormed kind updatePlace chip → 1 ≤ length image → ContainsAt chip updatePlace image → Loads kind chip image updatePlace true → loads chip image updatePlace true) where
+  abbrev updateLength : List ℕ
+  updateLength = goldenArea updatePlace (first .chip)
 
-  invariant : Invariant kind update area first
+  invariant : Invariant kind updatePlace updateLength first
   unfolding onRun
   invariant = record {
-    good = begins .good;
+    formed = begins .formed;
     golden = refl;
     image = begins .image;
     found = λ f o. absurd (let e = eqb-true (first .looks) 16 f in let z = begins .unseen in omega arith);
-    run = subst (λ (r : Option Run). onRun r (Unit {0}) (λ run. Holds kind update run first)) (sym (begins .closed)) tt;
+    run = subst (λ (r : Option Run). onRun r (Unit {0}) (λ run. Holds kind updatePlace run first)) (sym (begins .closed)) tt;
   }
 
-  module _ (w : World) (inv : Invariant kind update area w) where
-    off-loads : isOn kind w ≡ false → Loads kind (w .chip) area goldenAt false
-    off-loads off = subst (λ (g : List ℕ). Loads kind (w .chip) g goldenAt false) (inv .golden) (lawful .off-loads update (w .chip) (inv .good) off)
+  module _ (w : World) (inv : Invariant kind updatePlace updateLength w) where
+    off-loads : isOn kind w ≡ false → Loads kind (w .chip) updateLength goldenAt false
+    off-loads off = subst (λ (g : List ℕ). Loads kind (w .chip) g goldenAt false) (inv .golden) (lawful .off-loads updatePlace (w .chip) (inv .formed) off)
 
-    on-loads : (on : isOn kind w ≡ true) → Loads kind (w .chip) (inv .image on .image) update true
-    on-loads on = let s = inv .image on in lawful .on-loads update (w .chip) (s .image) (inv .good) on (s .alone) (s .stands)
+    on-loads : (on : isOn kind w ≡ true) → Loads kind (w .chip) (inv .image on .image) updatePlace true
+    on-loads on = let s = inv .image on in lawful .on-loads updatePlace (w .chip) (s .image) (inv .formed) on (s .alone) (s .contained)
 
-    ordered-loads : isOn kind w ≡ true → OrderedLoads loads update w
+    ordered-loads : isOn kind w ≡ true → OrderedLoads loads updatePlace w
     ordered-loads on =
         let s = inv .image on in
-        record { image = s .image; ordered = s .ordered; loaded = update-loads (w .chip) (s .image) (inv .good) (s .some-bytes) (s .stands) (on-loads on) }
+        record { image = s .image; ordered = s .ordered; loaded = update-loads (w .chip) (s .image) (inv .formed) (s .some-bytes) (s .contained) (on-loads on) }
 
     off-only : loads (w .chip) golden goldenAt false → isOn kind w ≡ false
     off-only l = go (isOn kind w) refl
       where
         go : (b : Bool) → isOn kind w ≡ b → isOn kind w ≡ false
         go false e = e
-        go true e = absurd (jumped-or-not kind (w .chip) (reads (w .chip) golden goldenAt false l) (loads-reads kind (w .chip) (inv .image e .image) update true (on-loads e)))
+        go true e = absurd (jumped-or-not kind (w .chip) (reads (w .chip) golden goldenAt false l) (loads-reads kind (w .chip) (inv .image e .image) updatePlace true (on-loads e)))
 
     on-only : (image : List ℕ) (place : ℕ) → loads (w .chip) image place true → isOn kind w ≡ true
     on-only image place l = go (isOn kind w) refl
       where
         go : (b : Bool) → isOn kind w ≡ b → isOn kind w ≡ true
         go true e = e
-        go false e = absurd (jumped-or-not kind (w .chip) (loads-reads kind (w .chip) area goldenAt false (off-loads e)) (reads (w .chip) image place true l))
+        go false e = absurd (jumped-or-not kind (w .chip) (loads-reads kind (w .chip) updateLength goldenAt false (off-loads e)) (reads (w .chip) image place true l))
 
   -- One more run: the list with it is itself one that keeps the premises, so what is ON loads what was ordered, and that is its image.
-  again : (w : World) → Invariant kind update area w → (layout : Layout) (image : List ℕ) (state : State) → startAnswer kind layout image ≡ Started state → layout .length ≡ length (w .chip) →
-      layout .update ≡ update → Bytes image → Updates kind loads update layout image w
+  again : (w : World) → Invariant kind updatePlace updateLength w → (layout : Layout) (image : List ℕ) (state : State) → startAnswer kind layout image ≡ Started state → layout .«chip_length» ≡ length (w .chip) →
+      layout .«update_place» ≡ updatePlace → Bytes image → Updates kind loads updatePlace layout image w
   again w inv layout image state e l u bytes =
       let o = opened kind lawful layout image state e in
-      let r = uncut-run kind lawful update layout image (o .numbers) (o .alone) bytes w l u in
+      let r = uncut-run kind lawful updatePlace layout image (o .numbers) (o .alone) bytes w l u in
       let es = uncut kind layout image (w .chip) in
       let after = life kind w es in
-      let s = ordered-loads after (lives kind lawful update area es w inv (r .valid)) (r .reached .on) in
+      let s = ordered-loads after (lives kind lawful updatePlace updateLength es w inv (r .valid)) (r .reached .on) in
       let same : s .image ≡ image = some-same (sym (s .ordered) ∙ r .reached .ordered) in
-      record { valid = r .valid; state = r .reached .state; loaded = subst (λ (i : List ℕ). loads (after .chip) i update true) same (s .loaded) }
+      record { valid = r .valid; state = r .reached .state; loaded = subst (λ (i : List ℕ). loads (after .chip) i updatePlace true) same (s .loaded) }
 
-  claim : (w : World) → Invariant kind update area w → Claim kind loads update golden w
+  claim : (w : World) → Invariant kind updatePlace updateLength w → Claim kind loads updatePlace golden w
   claim w inv = record {
-    off = λ off. golden-loads (w .chip) (inv .good) (off-loads w inv off);
+    off = λ off. golden-loads (w .chip) (inv .formed) (off-loads w inv off);
     off-only = off-only w inv;
     on = ordered-loads w inv;
     on-only = on-only w inv;
@@ -104,10 +102,10 @@ module _ (kind : Kind) (lawful : Lawful kind) (update : ℕ) (first : World) (be
     again = again w inv;
   }
 
-  pub claims : (events : List Event) → Valid kind update first events → Claim kind loads update golden (life kind first events)
-  claims events valid = claim (life kind first events) (lives kind lawful update area events first invariant valid)
+  pub claims : (events : List Event) → Valid kind updatePlace first events → Claim kind loads updatePlace golden (life kind first events)
+  claims events valid = claim (life kind first events) (lives kind lawful updatePlace updateLength events first invariant valid)
 
 -- DEMAND 3 of any kind that keeps its laws.
 pub demand3 : (kind : Kind) → Lawful kind → Demand3 kind
-demand3 kind lawful update w begins =
-    claims kind lawful update w begins (Loads kind) (goldenArea update (w .chip)) (loads-reads kind) (λ chip good l. l) (λ chip image good some stands l. l)
+demand3 kind lawful updatePlace w begins =
+    claims kind lawful updatePlace w begins (Loads kind) (goldenArea updatePlace (w .chip)) (loads-reads kind) (λ chip formed l. l) (λ chip image formed some contained l. l)

@@ -7,18 +7,18 @@ use native.Mathlib.Nat.{mod-eq-of-lt}
 use lib.Bits.{bitAnd, and-comm, and-le-r, and-mask}
 use lib.ListN.{length, getD}
 use lib.Seq.{ext-getD}
-use Rattle.flash.specs.Flash.{erased, span, over, afterProgram}
-use Rattle.flash.proofs.Laws.{span-at, span-length, over-length, over-before, over-inside, over-after, erased-length, erased-at, cleared-length, cleared-at}
+use Rattle.flash.specs.Flash.{erased, span, overwrite, afterProgram}
+use Rattle.flash.proofs.Laws.{span-at, span-length, overwrite-length, overwrite-before, overwrite-inside, overwrite-after, erased-length, erased-at, cleared-length, cleared-at}
 use Rattle.chip.proofs.Laws.{obeyed-may}
 use Rattle.orders.specs.Orders.{Order, erase, program, look}
 use Rattle.effects.specs.Effects.{obeyedSpan, leaves, obeyed}
-use Rattle.life.specs.Life.{MayBeLeft, saidTo, readBy}
+use Rattle.life.specs.Life.{AdmissibleSpan, replyKindOf, bytesRead}
 use Rattle.life.specs.OrderList.{Replies}
 
 -- What an order does on a chip that obeys: it leaves what it may, its reply is the one it asks for, and the chip stays as long.
 pub record Obeys (order : Order) (chip : List ℕ) : Type 0 where
-  pub may : MayBeLeft order chip (obeyedSpan order chip)
-  pub replied : Replies order (saidTo order) (readBy order (obeyed order chip))
+  pub may : AdmissibleSpan order chip (obeyedSpan order chip)
+  pub replied : Replies order (replyKindOf order) (bytesRead order (obeyed order chip))
   pub long : length (obeyed order chip) ≡ length chip
 
 -- An erase leaves FF.
@@ -27,24 +27,24 @@ module _ (chip : List ℕ) (place count : ℕ) (fits : place + count ≤ length 
   within = let e = erased-length count in omega (arith, fits)
 
   pub erase-obeys : Obeys (erase place count) chip
-  unfolding MayBeLeft obeyedSpan leaves Replies saidTo readBy
+  unfolding AdmissibleSpan obeyedSpan leaves Replies replyKindOf bytesRead
   erase-obeys = record {
     may = obeyed-may chip place (erased count) (λ i h. rw (erased-at count i (let e = erased-length count in omega arith)) (omega arith));
     replied = (refl, refl);
-    long = over-length chip place (erased count) within;
+    long = overwrite-length chip place (erased count) within;
   }
 
   pub erase-before : (i : ℕ) → i < place → getD (obeyed (erase place count) chip) i 0 ≡ getD chip i 0
   unfolding obeyedSpan leaves
-  erase-before i h = over-before chip place (erased count) within i 0 h
+  erase-before i h = overwrite-before chip place (erased count) within i 0 h
 
   pub erase-inside : (i : ℕ) → place ≤ i → i < place + count → getD (obeyed (erase place count) chip) i 0 ≡ 0xFF
   unfolding obeyedSpan leaves
   erase-inside i a b =
       let e : i ≡ place + (i - place) = omega arith in
       let l = erased-length count in
-      ap (λ (k : ℕ). getD (over chip place (erased count)) k 0) e
-      ∙ over-inside chip place (erased count) within (i - place) 0 (omega arith)
+      ap (λ (k : ℕ). getD (overwrite chip place (erased count)) k 0) e
+      ∙ overwrite-inside chip place (erased count) within (i - place) 0 (omega arith)
       ∙ erased-at count (i - place) (omega arith)
 
 -- A program of bytes over FF leaves the bytes.
@@ -67,7 +67,7 @@ module _ (chip : List ℕ) (place : ℕ) (bytes : List ℕ) (fits : place + leng
       ∙ ap (λ (o : ℕ). bitAnd o (getD bytes i 0)) (span-at chip place (length bytes) i h)
 
   pub program-obeys : Obeys (program place bytes) chip
-  unfolding MayBeLeft obeyedSpan leaves Replies saidTo readBy
+  unfolding AdmissibleSpan obeyedSpan leaves Replies replyKindOf bytesRead
   program-obeys = record {
     may = obeyed-may chip place (afterProgram chip place bytes) (λ i h.
         let k : i < length bytes = (let e = new-length in omega arith) in
@@ -75,28 +75,28 @@ module _ (chip : List ℕ) (place : ℕ) (bytes : List ℕ) (fits : place + leng
         let l = and-le-r (getD chip (place + i) 0) (getD bytes i 0) in
         rw (new-at i k) (omega arith));
     replied = (refl, refl);
-    long = over-length chip place (afterProgram chip place bytes) new-within;
+    long = overwrite-length chip place (afterProgram chip place bytes) new-within;
   }
 
   pub program-before : (i : ℕ) → i < place → getD (obeyed (program place bytes) chip) i 0 ≡ getD chip i 0
   unfolding obeyedSpan leaves
-  program-before i h = over-before chip place (afterProgram chip place bytes) new-within i 0 h
+  program-before i h = overwrite-before chip place (afterProgram chip place bytes) new-within i 0 h
 
   pub program-inside : (i : ℕ) → i < length bytes → getD chip (place + i) 0 ≡ 0xFF → getD (obeyed (program place bytes) chip) (place + i) 0 ≡ getD bytes i 0
   unfolding obeyedSpan leaves
   program-inside i h blank =
-      over-inside chip place (afterProgram chip place bytes) new-within i 0 (let e = new-length in omega arith)
+      overwrite-inside chip place (afterProgram chip place bytes) new-within i 0 (let e = new-length in omega arith)
       ∙ new-at i h
       ∙ ap (λ (o : ℕ). bitAnd o (getD bytes i 0)) blank
       ∙ over-ones (getD bytes i 0) (small i h)
 
   pub program-after : (i : ℕ) → place + length bytes ≤ i → getD (obeyed (program place bytes) chip) i 0 ≡ getD chip i 0
   unfolding obeyedSpan leaves
-  program-after i h = over-after chip place (afterProgram chip place bytes) new-within i 0 (let e = new-length in omega arith)
+  program-after i h = overwrite-after chip place (afterProgram chip place bytes) new-within i 0 (let e = new-length in omega arith)
 
--- A look that finds what must stand changes nothing.
+-- A look that finds what is expected changes nothing.
 pub look-obeys : (chip : List ℕ) (place : ℕ) (bytes : List ℕ) → place + length bytes ≤ length chip → ((i : ℕ) → i < length bytes → getD chip (place + i) 0 ≡ getD bytes i 0) → Obeys (look place bytes) chip
-unfolding MayBeLeft obeyedSpan leaves Replies saidTo readBy
+unfolding AdmissibleSpan obeyedSpan leaves Replies replyKindOf bytesRead
 look-obeys chip place bytes fits same =
     let l : length (span chip place (length bytes)) ≡ length bytes = span-length chip place (length bytes) fits in
     record {

@@ -10,22 +10,18 @@ use native.Mathlib.Nat.{zero-add}
 use borrow.Author.Tests.{ltb-false, eqb-false}
 use lib.Dec.{eqb}
 use lib.ListN.{length, drop, take}
-use Rattle.chip.specs.Kind.{Kind, LoadsAlone, Lawful}
-use Rattle.chip.specs.declared.kind.Layout.{Layout}
-use Rattle.orders.specs.Table.{byPhase, count, before, total}
+use Rattle.kind.specs.Kind.{Kind}
+use Rattle.chip.specs.Chip.{LoadsAlone, Lawful}
+use Rattle.life.specs.Types.{Layout, State, ReplyAnswer, Next, StartAnswer, Started}
+use Rattle.orders.specs.Table.{byPhase, count, countBefore, total}
 use Rattle.orders.specs.Orders.{Order, erase, program, look, orderOf, orders}
-use Rattle.updater.specs.Run.{position, first, after, ended, running, fits, currentOrder}
-use Rattle.effects.specs.Effects.{placeOf, obeyedSpan, obeyed, obeyedAll, spanOf, Bytes}
+use Rattle.updater.specs.State.{position, first, after, ended, running, fits, currentOrder}
+use Rattle.effects.specs.Effects.{orderPlace, obeyedSpan, obeyed, obeyedAll, orderLength, Bytes}
 use Rattle.starts.specs.Starts.{startAnswer}
-use Rattle.updater.specs.Answers.{replyAnswer}
+use Rattle.updater.specs.Run.{replyAnswer}
 use Rattle.bench.specs.Bench.{cutAllowed, cutIn}
 use Rattle.life.specs.BenchLife.{cutEvents, benchEvents}
-use Rattle.life.specs.Life.{Run, World, Event, starts, carries, replies, afterStart, orderedImage, carryOut, afterReply, onRun, next, MayStart, TrueRead, MayReply, May, Valid, life, isOn, saidTo, readBy, obeying, uncut}
-use Rattle.updater.specs.declared.run.State.{State}
-use Rattle.starts.specs.declared.StartAnswer.{StartAnswer}
-use Rattle.starts.specs.declared.StartAnswer.the-variants.{Started}
-use Rattle.updater.specs.declared.run.ReplyAnswer.{ReplyAnswer}
-use Rattle.updater.specs.declared.run.ReplyAnswer.the-variants.{Next}
+use Rattle.life.specs.Life.{Run, World, Event, starts, carries, replies, afterStart, orderedImage, carryOut, afterReply, onRun, next, AdmissibleStart, TrueRead, AdmissibleReply, Admissible, Valid, life, isOn, replyKindOf, bytesRead, obeying, uncut}
 use Rattle.updater.proofs.Laws.{Numbers, running-says, after-index, after-phase, last-or-not, after-fits, after-position, position-running, position-ended, first-fits, current-order, orders-left, orders-ended}
 use Rattle.starts.proofs.Laws.{starts as start-accepted}
 use Rattle.life.proofs.ReplyLaws.{moves}
@@ -35,15 +31,15 @@ use Rattle.life.proofs.DamageLaws.{damage-may}
 use Rattle.life.proofs.ProgressLaws.{Progress, Advances, Step, advances, ends-on}
 
 -- A list of events that keeps the premises and leads to a world of which something holds.
-pub record Leads (kind : Kind) (update : ℕ) (goal : World → Type 0) (w : World) (events : List Event) : Type 0 where
-  pub valid : Valid kind update w events
+pub record Leads (kind : Kind) (updatePlace : ℕ) (goal : World → Type 0) (w : World) (events : List Event) : Type 0 where
+  pub valid : Valid kind updatePlace w events
   pub reached : goal (life kind w events)
 
 -- one event before
-pub event-first : (kind : Kind) (update : ℕ) (goal : World → Type 0) (w : World) (event : Event) (events : List Event) →
-    May kind update w event → Leads kind update goal (next kind w event) events → Leads kind update goal w (event ∷ events)
+pub event-first : (kind : Kind) (updatePlace : ℕ) (goal : World → Type 0) (w : World) (event : Event) (events : List Event) →
+    Admissible kind updatePlace w event → Leads kind updatePlace goal (next kind w event) events → Leads kind updatePlace goal w (event ∷ events)
 unfolding Valid life
-event-first kind update goal w event events may l = record { valid = (may, l .valid); reached = l .reached }
+event-first kind updatePlace goal w event events may l = record { valid = (may, l .valid); reached = l .reached }
 
 -- A run that has ended well: the switch is ON, and the image is the ordered one.
 pub record Finished (kind : Kind) (layout : Layout) (image : List ℕ) (w : World) : Type 0 where
@@ -52,8 +48,8 @@ pub record Finished (kind : Kind) (layout : Layout) (image : List ℕ) (w : Worl
   pub ordered : w .image ≡ some image
 
 -- What a look reads is true.
-reads-true : (order : Order) (chip : List ℕ) → TrueRead order chip (readBy order chip)
-unfolding TrueRead readBy
+reads-true : (order : Order) (chip : List ℕ) → TrueRead order chip (bytesRead order chip)
+unfolding TrueRead bytesRead
 reads-true (erase place count) chip = tt
 reads-true (program place bytes) chip = tt
 reads-true (look place bytes) chip = refl
@@ -67,10 +63,10 @@ orders-image phase image last known h = go (eqb phase 5) refl
     go true e = refl
     go false e = known (let n = eqb-false phase 5 e in omega arith)
 
-module _ (kind : Kind) (lawful : Lawful kind) (update : ℕ) (layout : Layout) (image : List ℕ) (numbers : Numbers layout (length image)) (alone : LoadsAlone kind image) (bytes : Bytes image) where
+module _ (kind : Kind) (lawful : Lawful kind) (updatePlace : ℕ) (layout : Layout) (image : List ℕ) (numbers : Numbers layout (length image)) (alone : LoadsAlone kind image) (bytes : Bytes image) where
   -- the run's state at a phase's index, its order, and a world in which the run is open
   abbrev at : ℕ → ℕ → State
-  at phase i = record { layout = layout; length = length image; phase = phase; index = i; outcome = 0 }
+  at phase i = record { layout = layout; «image_length» = length image; phase = phase; index = i; outcome = 0 }
 
   abbrev order : ℕ → ℕ → Order
   order phase i = currentOrder kind (at phase i) image
@@ -83,13 +79,13 @@ module _ (kind : Kind) (lawful : Lawful kind) (update : ℕ) (layout : Layout) (
   eventsFrom place chip = obeying image (drop place (orders kind layout image)) chip
 
   abbrev Ends : World → List Event → Type 0
-  Ends w events = Leads kind update (Finished kind layout image) w events
+  Ends w events = Leads kind updatePlace (Finished kind layout image) w events
 
   -- How far a run has come: its state fits, its chip is as far, and from phase 6 on its image is the ordered one.
   record Reached (phase i : ℕ) (chip : List ℕ) (last : Option (List ℕ)) : Type 0 where
     fitted : fits (at phase i) (length image) ≡ true
     stop : 7 ≤ phase → (phase ≡ 7) × (i ≡ 0)
-    long : length chip ≡ layout .length
+    long : length chip ≡ layout .«chip_length»
     progress : Progress kind layout image phase i chip
     known : 5 < phase → last ≡ some image
 
@@ -100,7 +96,7 @@ module _ (kind : Kind) (lawful : Lawful kind) (update : ℕ) (layout : Layout) (
     comes : after (at phase i) ≡ at then-phase then-index
     reached : Reached then-phase then-index chip last
 
-  begins : (w : World) → layout .length ≡ length (w .chip) → Reached 0 0 (w .chip) (w .image)
+  begins : (w : World) → layout .«chip_length» ≡ length (w .chip) → Reached 0 0 (w .chip) (w .image)
   unfolding Progress byPhase
   begins w l = record { fitted = first-fits layout (length image) numbers; stop = λ h. absurd (omega arith); long = sym l; progress = tt; known = λ h. absurd (omega arith) }
 
@@ -171,28 +167,28 @@ module _ (kind : Kind) (lawful : Lawful kind) (update : ℕ) (layout : Layout) (
 
     -- The order, obeyed, and its reply are the events that come first,
     first-events : eventsFrom (position (at phase i)) chip ≡
-        carries (obeyedSpan (order phase i) chip) ∷ replies image (saidTo (order phase i)) (readBy (order phase i) then-chip) ∷ eventsFrom (position (at phase i) + 1) then-chip
+        carries (obeyedSpan (order phase i) chip) ∷ replies image (replyKindOf (order phase i)) (bytesRead (order phase i) then-chip) ∷ eventsFrom (position (at phase i) + 1) then-chip
     unfolding obeying
     first-events = ap (λ (o : List Order). obeying image o chip) (orders-left kind (at phase i) image (reached .fitted) runs)
 
-    moved : replyAnswer kind (at phase i) image (saidTo (order phase i)) (readBy (order phase i) then-chip) ≡ Next (after (at phase i))
-    moved = moves kind (at phase i) image (saidTo (order phase i)) (readBy (order phase i) then-chip) (reached .fitted) runs (obeys .replied)
+    moved : replyAnswer kind (at phase i) image (replyKindOf (order phase i)) (bytesRead (order phase i) then-chip) ≡ Next (after (at phase i))
+    moved = moves kind (at phase i) image (replyKindOf (order phase i)) (bytesRead (order phase i) then-chip) (reached .fitted) runs (obeys .replied)
 
     -- and they move the run on.
     order-first : (goal : World → Type 0) (looks : ℕ) (ordered : Bool) (events : List Event) →
-        ((looks : ℕ) (ordered : Bool) → Leads kind update goal (world then-chip (after (at phase i)) false looks ordered then-image) events) →
-        Leads kind update goal (world chip (at phase i) false looks ordered last)
-        (carries (obeyedSpan (order phase i) chip) ∷ replies image (saidTo (order phase i)) (readBy (order phase i) then-chip) ∷ events)
-    unfolding May next onRun carryOut afterReply MayReply
+        ((looks : ℕ) (ordered : Bool) → Leads kind updatePlace goal (world then-chip (after (at phase i)) false looks ordered then-image) events) →
+        Leads kind updatePlace goal (world chip (at phase i) false looks ordered last)
+        (carries (obeyedSpan (order phase i) chip) ∷ replies image (replyKindOf (order phase i)) (bytesRead (order phase i) then-chip) ∷ events)
+    unfolding Admissible next onRun carryOut afterReply AdmissibleReply
     order-first goal looks ordered events rest =
-        event-first kind update goal _ _ _
+        event-first kind updatePlace goal _ _ _
         (record { asked = runs; once = refl; leaves = obeys .may })
-        (event-first kind update goal _ _ _
-        (subst (λ (a : ReplyAnswer). MayReply a kind image read carried done) (sym moved) (record { carried = refl; same = refl; reads = reads-true (order phase i) then-chip }))
-        (subst (λ (a : ReplyAnswer). Leads kind update goal (afterReply a carried done) events) (sym moved) (rest (done .looks) (done .ordered))))
+        (event-first kind updatePlace goal _ _ _
+        (subst (λ (a : ReplyAnswer). AdmissibleReply a kind image read carried done) (sym moved) (record { carried = refl; same = refl; reads = reads-true (order phase i) then-chip }))
+        (subst (λ (a : ReplyAnswer). Leads kind updatePlace goal (afterReply a carried done) events) (sym moved) (rest (done .looks) (done .ordered))))
       where
         read : List ℕ
-        read = readBy (order phase i) then-chip
+        read = bytesRead (order phase i) then-chip
 
         carried : Run
         carried = record { state = at phase i; image = image; carried = true }
@@ -240,20 +236,20 @@ module _ (kind : Kind) (lawful : Lawful kind) (update : ℕ) (layout : Layout) (
       go false r rest = absurd (let p = position-ended (at phase i) (length image) (reached .fitted) r in omega arith)
 
   -- its start before
-  start-first : (goal : World → Type 0) (w : World) (events : List Event) → layout .length ≡ length (w .chip) → layout .update ≡ update →
-      Leads kind update goal (world (w .chip) (at 0 0) false 0 false (w .image)) events → Leads kind update goal w (starts layout image ∷ events)
-  unfolding May MayStart next afterStart
+  start-first : (goal : World → Type 0) (w : World) (events : List Event) → layout .«chip_length» ≡ length (w .chip) → layout .«update_place» ≡ updatePlace →
+      Leads kind updatePlace goal (world (w .chip) (at 0 0) false 0 false (w .image)) events → Leads kind updatePlace goal w (starts layout image ∷ events)
+  unfolding Admissible AdmissibleStart next afterStart
   start-first goal w events l u run =
-      event-first kind update goal w (starts layout image) events
-      (subst (λ (a : StartAnswer). MayStart a update layout w) (sym accepted) (l, u))
-      (subst (λ (a : StartAnswer). Leads kind update goal (afterStart a image w) events) (sym accepted) run)
+      event-first kind updatePlace goal w (starts layout image) events
+      (subst (λ (a : StartAnswer). AdmissibleStart a updatePlace layout w) (sym accepted) (l, u))
+      (subst (λ (a : StartAnswer). Leads kind updatePlace goal (afterStart a image w) events) (sym accepted) run)
     where
       accepted : startAnswer kind layout image ≡ Started (first layout (length image))
       accepted = start-accepted kind layout image numbers alone
 
   -- THE UNCUT RUN.
-  pub uncut-run : (w : World) → layout .length ≡ length (w .chip) → layout .update ≡ update → Ends w (uncut kind layout image (w .chip))
-  unfolding before
+  pub uncut-run : (w : World) → layout .«chip_length» ≡ length (w .chip) → layout .«update_place» ≡ updatePlace → Ends w (uncut kind layout image (w .chip))
+  unfolding countBefore
   uncut-run w l u =
       start-first (Finished kind layout image) w (obeying image (orders kind layout image) (w .chip)) l u
       (finishes (total layout (length image)) 0 0 (w .chip) 0 false (w .image) (begins w l) (zero-add (total layout (length image))))
@@ -267,7 +263,7 @@ module _ (kind : Kind) (lawful : Lawful kind) (update : ℕ) (layout : Layout) (
     abbrev CutsShort : ℕ → ℕ → ℕ → List ℕ → Option (List ℕ) → List Order → Type 0
     CutsShort k phase i chip last left =
         (looks : ℕ) (ordered : Bool) → cutAllowed (drop k left) (obeyedAll (take k left) chip) damage ≡ true →
-        Leads kind update (Cut k left chip) (world chip (at phase i) false looks ordered last) (benchEvents k image left chip damage)
+        Leads kind updatePlace (Cut k left chip) (world chip (at phase i) false looks ordered last) (benchEvents k image left chip damage)
 
     -- none is left
     cut-none : (k phase i : ℕ) (chip : List ℕ) (last : Option (List ℕ)) → CutsShort k phase i chip last []
@@ -276,18 +272,18 @@ module _ (kind : Kind) (lawful : Lawful kind) (update : ℕ) (layout : Layout) (
     cut-none (suc k) phase i chip last looks ordered allowed = record { valid = tt; reached = refl }
 
     module _ (phase i : ℕ) (chip : List ℕ) (last : Option (List ℕ)) (reached : Reached phase i chip last) (runs : running (at phase i) ≡ true) (more : List Order) where
-      within-chip : placeOf (order phase i) + spanOf (order phase i) ≤ length chip
+      within-chip : orderPlace (order phase i) + orderLength (order phase i) ≤ length chip
       within-chip =
           let s = says phase i chip last reached runs in
           let l = reached .long in
-          subst (λ (o : Order). placeOf o + spanOf o ≤ length chip) (sym (is-order phase i chip last reached runs))
+          subst (λ (o : Order). orderPlace o + orderLength o ≤ length chip) (sym (is-order phase i chip last reached runs))
           (let w = order-within kind lawful layout image numbers phase (s .0) i (s .1) in omega arith)
 
       -- in the current order
       cut-here : CutsShort 0 phase i chip last (order phase i ∷ more)
-      unfolding cutAllowed cutEvents benchEvents May next onRun carryOut cutIn obeyedAll Valid life
+      unfolding cutAllowed cutEvents benchEvents Admissible next onRun carryOut cutIn obeyedAll Valid life
       cut-here looks ordered allowed =
-          event-first kind update (Cut 0 (order phase i ∷ more) chip) (world chip (at phase i) false looks ordered last) _ _
+          event-first kind updatePlace (Cut 0 (order phase i ∷ more) chip) (world chip (at phase i) false looks ordered last) _ _
           (record { asked = runs; once = refl; leaves = damage-may (order phase i) chip damage within-chip small allowed })
           (record { valid = (tt, tt); reached = refl })
 
@@ -299,7 +295,7 @@ module _ (kind : Kind) (lawful : Lawful kind) (update : ℕ) (layout : Layout) (
           order-first phase i chip last reached runs (Cut k more (obeyed (order phase i) chip)) looks ordered (benchEvents k image more (obeyed (order phase i) chip) damage)
           (λ looks ordered.
           let f = further phase i chip last reached runs in
-          subst (λ (s : State). Leads kind update (Cut k more (obeyed (order phase i) chip)) (world (obeyed (order phase i) chip) s false looks ordered (orderedImage (eqb phase 5) image last)) (benchEvents k image more (obeyed (order phase i) chip) damage)) (sym (f .comes))
+          subst (λ (s : State). Leads kind updatePlace (Cut k more (obeyed (order phase i) chip)) (world (obeyed (order phase i) chip) s false looks ordered (orderedImage (eqb phase 5) image last)) (benchEvents k image more (obeyed (order phase i) chip) damage)) (sym (f .comes))
           (rest (f .then-phase) (f .then-index) (f .reached) (ap position (sym (f .comes)) ∙ after-position (at phase i) (length image) (reached .fitted) runs) looks ordered allowed))
 
     cuts-short : (k phase i : ℕ) (chip : List ℕ) (last : Option (List ℕ)) → Reached phase i chip last → CutsShort k phase i chip last (drop (position (at phase i)) (orders kind layout image))
@@ -320,9 +316,9 @@ module _ (kind : Kind) (lawful : Lawful kind) (update : ℕ) (layout : Layout) (
         go false r rest = subst (CutsShort (suc k) phase i chip last) (sym (orders-ended kind (at phase i) image (reached .fitted) r)) (cut-none (suc k) phase i chip last)
 
     -- THE RUN THAT IS CUT.
-    pub cut-run : (w : World) (k : ℕ) → layout .length ≡ length (w .chip) → layout .update ≡ update →
+    pub cut-run : (w : World) (k : ℕ) → layout .«chip_length» ≡ length (w .chip) → layout .«update_place» ≡ updatePlace →
         cutAllowed (drop k (orders kind layout image)) (obeyedAll (take k (orders kind layout image)) (w .chip)) damage ≡ true →
-        Leads kind update (Cut k (orders kind layout image) (w .chip)) w (starts layout image ∷ benchEvents k image (orders kind layout image) (w .chip) damage)
-    unfolding before
+        Leads kind updatePlace (Cut k (orders kind layout image) (w .chip)) w (starts layout image ∷ benchEvents k image (orders kind layout image) (w .chip) damage)
+    unfolding countBefore
     cut-run w k l u allowed =
         start-first (Cut k (orders kind layout image) (w .chip)) w (benchEvents k image (orders kind layout image) (w .chip) damage) l u (cuts-short k 0 0 (w .chip) (w .image) (begins w l) 0 false allowed)

@@ -3,14 +3,12 @@ use Prim.Native.Nat.{ℕ, zero, suc}
 use mathlib.Core.Path.{_≡_}
 use mathlib.Core.List.{List, [], _∷_}
 use lib.ListN.{length, take}
-use Rattle.chip.specs.Kind.{Kind}
-use Rattle.chip.specs.declared.kind.Layout.{Layout}
+use Rattle.kind.specs.Kind.{Kind}
+use Rattle.life.specs.Types.{Layout, State, Reached}
 use Rattle.orders.specs.Orders.{Order, orders}
 use Rattle.effects.specs.Effects.{obeyedSpan, obeyed, Bytes}
 use Rattle.bench.specs.Bench.{benchAnswer, benchOutput}
-use Rattle.life.specs.Life.{fresh, Event, starts, carries, replies, cuts, Valid, life, saidTo, readBy}
-use Rattle.updater.specs.declared.run.State.{State}
-use Rattle.bench.specs.declared.BenchAnswer.the-variants.{Reached}
+use Rattle.life.specs.Life.{fresh, Event, starts, carries, replies, cuts, Valid, life, replyKindOf, bytesRead}
 
 -- the order that is cut inside, and the cut; a run that has ended is not cut
 unfoldable pub cutEvents : List Order → List ℕ → List ℕ → List Event
@@ -22,7 +20,7 @@ unfoldable pub benchEvents : ℕ → List ℕ → List Order → List ℕ → Li
 benchEvents zero image left chip damage = cutEvents left chip damage
 benchEvents (suc k) image [] chip damage = []
 benchEvents (suc k) image (order ∷ more) chip damage =
-    carries (obeyedSpan order chip) ∷ replies image (saidTo order) (readBy order (obeyed order chip)) ∷ benchEvents k image more (obeyed order chip) damage
+    carries (obeyedSpan order chip) ∷ replies image (replyKindOf order) (bytesRead order (obeyed order chip)) ∷ benchEvents k image more (obeyed order chip) damage
 
 -- The bench's run as events.
 abbrev pub benchRun : Kind → Layout → List ℕ → List ℕ → ℕ → List ℕ → List Event
@@ -31,6 +29,6 @@ benchRun kind layout chip image k damage = starts layout image ∷ benchEvents k
 -- They keep the premises, and leave the chip that the bench leaves.
 abbrev pub BenchLives : Kind → Type 0
 BenchLives kind =
-    (layout : Layout) (chip image : List ℕ) (k : ℕ) (damage : List ℕ) (state : State) → benchAnswer kind layout chip image k damage ≡ Reached state → layout .length ≡ length chip → Bytes image → Bytes damage →
-    Valid kind (layout .update) (fresh chip) (benchRun kind layout chip image k damage)
+    (layout : Layout) (chip image : List ℕ) (k : ℕ) (damage : List ℕ) (state : State) → benchAnswer kind layout chip image k damage ≡ Reached state → layout .«chip_length» ≡ length chip → Bytes image → Bytes damage →
+    Valid kind (layout .«update_place») (fresh chip) (benchRun kind layout chip image k damage)
     × (life kind (fresh chip) (benchRun kind layout chip image k damage) .chip ≡ benchOutput (Reached state) kind layout chip image k damage)

@@ -1,4 +1,4 @@
--- DEMAND 3: the life of a chip. Document 01, "A chip's life"; the mission's demand 3 and its premises. One claim about any whole list of events.
+-- DEMAND 3: the life of a chip (document 01's term: "A chip's life"); the mission's demand 3 and its premises. One claim about any whole list of events.
 use Prim.Native.Nat.{ℕ, _+_, _≤_}
 use mathlib.Core.Path.{_≡_}
 use mathlib.Core.Bool.{Bool, true, false, _&&_, _||_}
@@ -6,23 +6,19 @@ use mathlib.Core.Option.{Option, some, none}
 use mathlib.Core.List.{List, [], _∷_}
 use lib.Dec.{eqb}
 use lib.ListN.{length}
-use Rattle.chip.specs.Layout.{goldenAt}
+use Rattle.kind.specs.Layout.{goldenAt}
 use Rattle.flash.specs.Flash.{span}
 use Rattle.chip.specs.Cut.{MayLeave}
-use Rattle.chip.specs.Kind.{Kind, switchWord, goldenArea, LoadsAlone, Loads, Good, Stands}
-use Rattle.chip.specs.declared.kind.Layout.{Layout}
+use Rattle.kind.specs.Kind.{Kind}
+use Rattle.chip.specs.Chip.{switchWord, goldenArea, LoadsAlone, Loads, WellFormed, ContainsAt}
+use Rattle.life.specs.Types.{Layout, State, ReplyAnswer, Next, Stopped, ReplyRefused, StartAnswer, Started, StartRefused}
 use Rattle.orders.specs.Orders.{Order, erase, program, look, orders}
-use Rattle.updater.specs.Run.{running, first, ended, currentOrder}
+use Rattle.updater.specs.State.{running, first, ended, currentOrder}
 use Rattle.comparison.specs.Comparison.{differs}
 use Rattle.effects.specs.Effects.{obeyedSpan, leaves, obeyed, Bytes}
 use Rattle.starts.specs.Starts.{startAnswer}
 use Rattle.orders.specs.Replies.{done, read}
-use Rattle.updater.specs.Answers.{replyAnswer}
-use Rattle.updater.specs.declared.run.State.{State}
-use Rattle.starts.specs.declared.StartAnswer.{StartAnswer}
-use Rattle.starts.specs.declared.StartAnswer.the-variants.{Started, Refused as StartRefused}
-use Rattle.updater.specs.declared.run.ReplyAnswer.{ReplyAnswer}
-use Rattle.updater.specs.declared.run.ReplyAnswer.the-variants.{Next, Stopped, Refused}
+use Rattle.updater.specs.Run.{replyAnswer}
 
 -- An open run: the state handed back last, the run's image, and whether the order that the state asks for has been carried out.
 pub record Run : Type 0 where
@@ -46,11 +42,11 @@ fresh chip = record { chip = chip; run = none; looks = 0; ordered = false; image
 abbrev pub found : World → Bool
 found w = eqb (w .looks) 16
 
--- An order is the one that the state handed back last asks for; the event has what stands in its span afterwards. So an order obeyed, one cut inside and one that the chip calls done and did otherwise are one event. A cut inside an order is that event, and then the cut.
+-- An order is the one that the state handed back last asks for; the event has what its span holds afterwards. So an order obeyed, one cut inside and one that the chip calls done and did otherwise are one event. A cut inside an order is that event, and then the cut.
 pub data Event : Type 0 where
   starts : (layout : Layout) (image : List ℕ) → Event
   carries : (left : List ℕ) → Event
-  replies : (image : List ℕ) (said : ℕ) (bytes : List ℕ) → Event
+  replies : (image : List ℕ) (replyKind : ℕ) (bytes : List ℕ) → Event
   cuts : Event
 
 -- START. Accepted, it opens a run, from then on the last one; a run still open counts as cut. Refused, it changes nothing.
@@ -64,7 +60,7 @@ afterStart (Started state) image w = record {
 }
 afterStart (StartRefused number place) image w = w
 
--- whether a look finds what must stand; no other order does
+-- whether a look finds what is expected; no other order does
 unfoldable pub agrees : Order → List ℕ → Bool
 agrees (erase place count) chip = false
 agrees (program place bytes) chip = false
@@ -90,7 +86,7 @@ carryOut order left run w = record {
 
 -- REPLY. Refused, chip and state stay; otherwise the state is the one handed back.
 unfoldable pub afterReply : ReplyAnswer → Run → World → World
-afterReply (Refused number place state) run w = w
+afterReply (ReplyRefused number place state) run w = w
 afterReply (Next state) run w = record { chip = w .chip; run = some (record { state = state; image = run .image; carried = false }); looks = w .looks; ordered = w .ordered; image = w .image }
 afterReply (Stopped number place state) run w = record { chip = w .chip; run = some (record { state = state; image = run .image; carried = false }); looks = w .looks; ordered = w .ordered; image = w .image }
 
@@ -107,58 +103,58 @@ unfoldable pub onRun {ℓ} : {A : Type ℓ} → Option Run → A → (Run → A)
 onRun none closed opened = closed
 onRun (some run) closed opened = opened run
 
--- ONE EVENT. An order or a reply without an open run changes nothing, and no list has one (`May`).
+-- ONE EVENT. An order or a reply without an open run changes nothing, and no list has one (`Admissible`).
 unfoldable pub next : Kind → World → Event → World
 next kind w (starts layout image) = afterStart (startAnswer kind layout image) image w
 next kind w (carries left) = onRun (w .run) w (λ run. carryOut (orderOfRun kind run) left run w)
-next kind w (replies image said bytes) = onRun (w .run) w (λ run. afterReply (replyAnswer kind (run .state) image said bytes) run w)
+next kind w (replies image replyKind bytes) = onRun (w .run) w (λ run. afterReply (replyAnswer kind (run .state) image replyKind bytes) run w)
 next kind w cuts = afterCut w
 
--- THE PREMISES. Every run uses the chip's own layout: its length and its U. (A stands nowhere on a chip, and nothing is asked of it.) A refused start may carry anything.
-unfoldable pub MayStart : StartAnswer → ℕ → Layout → World → Type 0
-MayStart (Started state) update layout w = (layout .length ≡ length (w .chip)) × (layout .update ≡ update)
-MayStart (StartRefused number place) update layout w = Unit {0}
+-- THE PREMISES. Every run uses the chip's own layout: its length and its U. (A is nowhere on a chip, and nothing is asked of it.) A refused start may carry anything.
+unfoldable pub AdmissibleStart : StartAnswer → ℕ → Layout → World → Type 0
+AdmissibleStart (Started state) updatePlace layout w = (layout .«chip_length» ≡ length (w .chip)) × (layout .«update_place» ≡ updatePlace)
+AdmissibleStart (StartRefused number place) updatePlace layout w = Unit {0}
 
 -- What may stand in an order's span afterwards: in segment 0 each bit old or as ordered, in the update area any bytes. A look has no say.
-unfoldable pub MayBeLeft : Order → List ℕ → List ℕ → Type 0
-MayBeLeft (erase place count) chip left = MayLeave chip place (obeyedSpan (erase place count) chip) left
-MayBeLeft (program place bytes) chip left = MayLeave chip place (obeyedSpan (program place bytes) chip) left
-MayBeLeft (look place bytes) chip left = Unit {0}
+unfoldable pub AdmissibleSpan : Order → List ℕ → List ℕ → Type 0
+AdmissibleSpan (erase place count) chip left = MayLeave chip place (obeyedSpan (erase place count) chip) left
+AdmissibleSpan (program place bytes) chip left = MayLeave chip place (obeyedSpan (program place bytes) chip) left
+AdmissibleSpan (look place bytes) chip left = Unit {0}
 
 -- The order of a run before phase 7, carried out once.
-pub record MayOrder (kind : Kind) (left : List ℕ) (run : Run) (w : World) : Type 0 where
+pub record AdmissibleOrder (kind : Kind) (left : List ℕ) (run : Run) (w : World) : Type 0 where
   pub asked : running (run .state) ≡ true
   pub once : run .carried ≡ false
-  pub leaves : MayBeLeft (orderOfRun kind run) (w .chip) left
+  pub leaves : AdmissibleSpan (orderOfRun kind run) (w .chip) left
 
 -- Reads are true: the reply to a look has the bytes that stand there. (That the reply to an erase or program says done is question 8.)
 unfoldable pub TrueRead : Order → List ℕ → List ℕ → Type 0
 TrueRead (erase place count) chip bytes = Unit {0}
 TrueRead (program place contents) chip bytes = Unit {0}
-TrueRead (look place must) chip bytes = bytes ≡ span chip place (length must)
+TrueRead (look place expected) chip bytes = bytes ≡ span chip place (length expected)
 
 -- A reply that is not refused: its order has been carried out, the image is the run's, and it says done or the bytes read.
-pub record Honest (kind : Kind) (image bytes : List ℕ) (run : Run) (w : World) : Type 0 where
+pub record TruthfulReply (kind : Kind) (image bytes : List ℕ) (run : Run) (w : World) : Type 0 where
   pub carried : run .carried ≡ true
   pub same : image ≡ run .image
   pub reads : TrueRead (orderOfRun kind run) (w .chip) bytes
 
 -- A refused reply (stops 10 to 12 are not) may carry anything and may come before its order.
-unfoldable pub MayReply : ReplyAnswer → Kind → List ℕ → List ℕ → Run → World → Type 0
-MayReply (Refused number place state) kind image bytes run w = Unit {0}
-MayReply (Next state) kind image bytes run w = Honest kind image bytes run w
-MayReply (Stopped number place state) kind image bytes run w = Honest kind image bytes run w
+unfoldable pub AdmissibleReply : ReplyAnswer → Kind → List ℕ → List ℕ → Run → World → Type 0
+AdmissibleReply (ReplyRefused number place state) kind image bytes run w = Unit {0}
+AdmissibleReply (Next state) kind image bytes run w = TruthfulReply kind image bytes run w
+AdmissibleReply (Stopped number place state) kind image bytes run w = TruthfulReply kind image bytes run w
 
-unfoldable pub May : Kind → ℕ → World → Event → Type 0
-May kind update w (starts layout image) = MayStart (startAnswer kind layout image) update layout w
-May kind update w (carries left) = onRun (w .run) (⊥) (λ run. MayOrder kind left run w)
-May kind update w (replies image said bytes) = onRun (w .run) (⊥) (λ run. MayReply (replyAnswer kind (run .state) image said bytes) kind image bytes run w)
-May kind update w cuts = Unit {0}
+unfoldable pub Admissible : Kind → ℕ → World → Event → Type 0
+Admissible kind updatePlace w (starts layout image) = AdmissibleStart (startAnswer kind layout image) updatePlace layout w
+Admissible kind updatePlace w (carries left) = onRun (w .run) (⊥) (λ run. AdmissibleOrder kind left run w)
+Admissible kind updatePlace w (replies image replyKind bytes) = onRun (w .run) (⊥) (λ run. AdmissibleReply (replyAnswer kind (run .state) image replyKind bytes) kind image bytes run w)
+Admissible kind updatePlace w cuts = Unit {0}
 
 -- A list of events that keeps the premises, and the world after it.
 unfoldable pub Valid : Kind → ℕ → World → List Event → Type 0
-Valid kind update w [] = Unit {0}
-Valid kind update w (event ∷ events) = May kind update w event × Valid kind update (next kind w event) events
+Valid kind updatePlace w [] = Unit {0}
+Valid kind updatePlace w (event ∷ events) = Admissible kind updatePlace w event × Valid kind updatePlace (next kind w event) events
 
 unfoldable pub life : Kind → World → List Event → World
 life kind w [] = w
@@ -169,70 +165,70 @@ abbrev pub isOn : Kind → World → Bool
 isOn kind w = kind .isOn (switchWord (w .chip))
 
 -- THE UNCUT RUN on a chip that obeys, as events: its start, then each of its orders, obeyed, and a true reply.
-unfoldable pub saidTo : Order → ℕ
-saidTo (erase place count) = done
-saidTo (program place bytes) = done
-saidTo (look place bytes) = read
+unfoldable pub replyKindOf : Order → ℕ
+replyKindOf (erase place count) = done
+replyKindOf (program place bytes) = done
+replyKindOf (look place bytes) = read
 
-unfoldable pub readBy : Order → List ℕ → List ℕ
-readBy (erase place count) chip = []
-readBy (program place bytes) chip = []
-readBy (look place bytes) chip = span chip place (length bytes)
+unfoldable pub bytesRead : Order → List ℕ → List ℕ
+bytesRead (erase place count) chip = []
+bytesRead (program place bytes) chip = []
+bytesRead (look place bytes) chip = span chip place (length bytes)
 
 unfoldable pub obeying : List ℕ → List Order → List ℕ → List Event
 obeying image [] chip = []
-obeying image (o ∷ more) chip = carries (obeyedSpan o chip) ∷ replies image (saidTo o) (readBy o (obeyed o chip)) ∷ obeying image more (obeyed o chip)
+obeying image (o ∷ more) chip = carries (obeyedSpan o chip) ∷ replies image (replyKindOf o) (bytesRead o (obeyed o chip)) ∷ obeying image more (obeyed o chip)
 
 abbrev pub uncut : Kind → Layout → List ℕ → List ℕ → List Event
 uncut kind layout image chip = starts layout image ∷ obeying image (orders kind layout image) chip
 
--- What "a chip loads an image that stands at a place, whole, jumped or not" is said in: `Loads kind`, or the answers of the boot reader's calls (`Boots`, specs/Built.antt).
+-- What "a chip loads an image at a place, whole, jumped or not" is said in: `Loads kind`, or the answers of the boot reader's calls (`Boots`, specs/Built.antt).
 abbrev pub Loading : Type 1
 Loading = List ℕ → List ℕ → ℕ → Bool → Type 0
 
 -- An uncut run keeps the premises, ends in phase 7 with outcome 0, and makes its own image load, after a jump.
-pub record Updates (kind : Kind) (loads : Loading) (update : ℕ) (layout : Layout) (image : List ℕ) (w : World) : Type 0 where
-  pub valid : Valid kind update w (uncut kind layout image (w .chip))
+pub record Updates (kind : Kind) (loads : Loading) (updatePlace : ℕ) (layout : Layout) (image : List ℕ) (w : World) : Type 0 where
+  pub valid : Valid kind updatePlace w (uncut kind layout image (w .chip))
   pub state : life kind w (uncut kind layout image (w .chip)) .run ≡ some (record { state = ended (first layout (length image)) 0; image = image; carried = false })
-  pub loaded : loads (life kind w (uncut kind layout image (w .chip)) .chip) image update true
+  pub loaded : loads (life kind w (uncut kind layout image (w .chip)) .chip) image updatePlace true
 
 -- There is an ordered image, and it loads, after a jump.
-pub record OrderedLoads (loads : Loading) (update : ℕ) (w : World) : Type 0 where
+pub record OrderedLoads (loads : Loading) (updatePlace : ℕ) (w : World) : Type 0 where
   pub image : List ℕ
   pub ordered : w .image ≡ some image
-  pub loaded : loads (w .chip) image update true
+  pub loaded : loads (w .chip) image updatePlace true
 
 -- THE CLAIM about a world.
-pub record Claim (kind : Kind) (loads : Loading) (update : ℕ) (golden : List ℕ) (w : World) : Type 0 where
+pub record Claim (kind : Kind) (loads : Loading) (updatePlace : ℕ) (golden : List ℕ) (w : World) : Type 0 where
   -- The reader loads golden, whole and without a jump, exactly when the switch is OFF;
   pub off : isOn kind w ≡ false → loads (w .chip) golden goldenAt false
   pub off-only : loads (w .chip) golden goldenAt false → isOn kind w ≡ false
   -- otherwise there is an ordered image, that of the last run that ordered the switch on, and it loads, whole, after a jump; and no image loads after a jump unless the switch is ON.
-  pub on : isOn kind w ≡ true → OrderedLoads loads update w
+  pub on : isOn kind w ≡ true → OrderedLoads loads updatePlace w
   pub on-only : (image : List ℕ) (place : ℕ) → loads (w .chip) image place true → isOn kind w ≡ true
   -- No update loads while the last run has found the switch segment erased and has not ordered it on: the switch is OFF.
   pub found-off : found w ≡ true → w .ordered ≡ false → isOn kind w ≡ false
   -- One more run, uncut on a chip that obeys, makes its own image load: every image that a start with this chip's length and U accepts.
-  pub again : (layout : Layout) (image : List ℕ) (state : State) → startAnswer kind layout image ≡ Started state → layout .length ≡ length (w .chip) → layout .update ≡ update →
-      Bytes image → Updates kind loads update layout image w
+  pub again : (layout : Layout) (image : List ℕ) (state : State) → startAnswer kind layout image ≡ Started state → layout .«chip_length» ≡ length (w .chip) → layout .«update_place» ≡ updatePlace →
+      Bytes image → Updates kind loads updatePlace layout image w
 
--- the ordered image, an accepted one, and that it stands at U
-pub record Standing (kind : Kind) (update : ℕ) (w : World) : Type 0 where
+-- the ordered image, an accepted one, and that the chip contains it at U
+pub record OrderedImageInPlace (kind : Kind) (updatePlace : ℕ) (w : World) : Type 0 where
   pub image : List ℕ
   pub ordered : w .image ≡ some image
   pub some-bytes : 1 ≤ length image
   pub alone : LoadsAlone kind image
-  pub stands : Stands (w .chip) update image
+  pub contained : ContainsAt (w .chip) updatePlace image
 
--- Where a list may start: no run open, a good chip, and if it is ON an ordered image that stands at U. (A good chip that is OFF, as a built one is, needs none.)
-pub record Begins (kind : Kind) (update : ℕ) (w : World) : Type 0 where
+-- Where a list may start: no run open, a well-formed chip, and if it is ON an ordered image at U. (A well-formed chip that is OFF, as a built one is, needs none.)
+pub record LifeBegins (kind : Kind) (updatePlace : ℕ) (w : World) : Type 0 where
   pub closed : w .run ≡ none
   pub unseen : w .looks ≡ 0
-  pub good : Good kind update (w .chip)
-  pub image : isOn kind w ≡ true → Standing kind update w
+  pub formed : WellFormed kind updatePlace (w .chip)
+  pub image : isOn kind w ≡ true → OrderedImageInPlace kind updatePlace w
 
 -- DEMAND 3, of any kind that keeps its laws, from any such start. Golden is what the golden area then held.
 abbrev pub Demand3 : Kind → Type 0
 Demand3 kind =
-    (update : ℕ) (w : World) → Begins kind update w → (events : List Event) → Valid kind update w events →
-    Claim kind (Loads kind) update (goldenArea update (w .chip)) (life kind w events)
+    (updatePlace : ℕ) (w : World) → LifeBegins kind updatePlace w → (events : List Event) → Valid kind updatePlace w events →
+    Claim kind (Loads kind) updatePlace (goldenArea updatePlace (w .chip)) (life kind w events)

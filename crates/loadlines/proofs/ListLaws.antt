@@ -5,12 +5,12 @@ use mathlib.Core.List.{List, [], _∷_}
 use native.Mathlib.Omega.{arith}
 use lib.ListN.{length}
 use lib.Seq.{paste, paste-zero, length-paste}
-use Rattle.writes.specs.Cursor.{rest, told}
+use Rattle.writes.specs.Cursor.{remainingWrites, writesAfterStep}
 use Rattle.packets.specs.declared.trace.Write.{Write}
 use Rattle.writes.specs.declared.cursor.Cursor.{Cursor}
 use Rattle.writes.specs.declared.cursor.CursorStep.{CursorStep}
 use Rattle.writes.specs.declared.cursor.CursorStep.the-variants.{Wrote, Done}
-use Rattle.reportlines.specs.Lines.{writeLine, writeLines}
+use Rattle.reportlines.specs.Reportlines.{writeLine, writeLines}
 use Rattle.fields.proofs.Laws.{paste-paste}
 use Rattle.reportlines.proofs.Laws.{length-write, length-writes}
 
@@ -59,11 +59,11 @@ module _ {before : List ℕ} {at : ℕ} {all : List Write} {out : List ℕ} {nex
       (omega (arith, going .ends), paste-zero out next (writeLines left) ∙ ap (λ (k : ℕ). paste out next (writeLines left) k) n ∙ going .is)
 
 -- A step's write is the first that is left, and its cursor's are the others.
-pub step-wrote : (s : List ℕ) (here : Cursor) (step : CursorStep) (w : Write) (cursor : Cursor) → told s step ≡ rest s here → step ≡ Wrote w cursor → w ∷ rest s cursor ≡ rest s here
-unfolding told
-step-wrote s here step w cursor h e = ap (λ (k : CursorStep). told s k) (sym e) ∙ h
+pub step-wrote : (s : List ℕ) (here : Cursor) (step : CursorStep) (w : Write) (cursor : Cursor) → writesAfterStep s step ≡ remainingWrites s here → step ≡ Wrote w cursor → w ∷ remainingWrites s cursor ≡ remainingWrites s here
+unfolding writesAfterStep
+step-wrote s here step w cursor h e = ap (λ (k : CursorStep). writesAfterStep s k) (sym e) ∙ h
 
 -- A step that is done leaves none.
-pub step-done : (s : List ℕ) (here : Cursor) (step : CursorStep) → told s step ≡ rest s here → step ≡ Done → [] ≡ rest s here
-unfolding told
-step-done s here step h e = ap (λ (k : CursorStep). told s k) (sym e) ∙ h
+pub step-done : (s : List ℕ) (here : Cursor) (step : CursorStep) → writesAfterStep s step ≡ remainingWrites s here → step ≡ Done → [] ≡ remainingWrites s here
+unfolding writesAfterStep
+step-done s here step h e = ap (λ (k : CursorStep). writesAfterStep s k) (sym e) ∙ h

@@ -6,9 +6,9 @@ ghost use Prim.Native.Nat.{_+_, _*_, _≤_};
 ghost use lib.Dec.{leb};
 ghost use lib.ListN.{length};
 ghost use lib.Seq.{paste};
-ghost use Rattle.writes.specs.Cursor.{rest};
+ghost use Rattle.writes.specs.Cursor.{remainingWrites};
 ghost use Rattle.fields.specs.Fields.{decimal};
-ghost use Rattle.reportlines.specs.Lines.{loadedLine, writeLines, endLine};
+ghost use Rattle.reportlines.specs.Reportlines.{loadedLine, writeLines, endLine};
 use fields::decimal_length;
 use fields::put;
 use fields::put_decimal_field;
@@ -50,9 +50,9 @@ fn put_loaded(out: &mut [u8], at: usize, jumped: bool)
 
 // The lines of all writes that a cursor has to give, in one pass; the place after them.
 fn put_writes(chip: &[u8], cursor: Cursor, out: &mut [u8], at: usize) -> usize
-    requires { ⌜ at + 27 * length (rest (now chip) cursor) ≤ length (now out) ⌝ }
-    ensures { λ r. ⌜ r ≡ at + 27 * length (rest (now (chip .entry)) cursor) ⌝ }
-    ensures { λ r. ⌜ now (out .exit) ≡ paste (now (out .entry)) at (writeLines (rest (now (chip .entry)) cursor)) (27 * length (rest (now (chip .entry)) cursor)) ⌝ }
+    requires { ⌜ at + 27 * length (remainingWrites (now chip) cursor) ≤ length (now out) ⌝ }
+    ensures { λ r. ⌜ r ≡ at + 27 * length (remainingWrites (now (chip .entry)) cursor) ⌝ }
+    ensures { λ r. ⌜ now (out .exit) ≡ paste (now (out .entry)) at (writeLines (remainingWrites (now (chip .entry)) cursor)) (27 * length (remainingWrites (now (chip .entry)) cursor)) ⌝ }
 {
     let mut next = at;
     let mut here = cursor;
@@ -92,9 +92,9 @@ pub fn put_report(
     end: usize,
     writes: usize,
 ) -> usize
-    requires { ⌜ 14 + 27 * length (rest (now chip) cursor) + length (endLine end writes) ≤ length (now out) ⌝ }
-    ensures { λ r. ⌜ r ≡ 14 + 27 * length (rest (now (chip .entry)) cursor) + length (endLine end writes) ⌝ }
-    ensures { λ r. ⌜ now (out .exit) ≡ paste (now (out .entry)) 0 (loadedLine jumped ++ writeLines (rest (now (chip .entry)) cursor) ++ endLine end writes) (14 + 27 * length (rest (now (chip .entry)) cursor) + length (endLine end writes)) ⌝ }
+    requires { ⌜ 14 + 27 * length (remainingWrites (now chip) cursor) + length (endLine end writes) ≤ length (now out) ⌝ }
+    ensures { λ r. ⌜ r ≡ 14 + 27 * length (remainingWrites (now (chip .entry)) cursor) + length (endLine end writes) ⌝ }
+    ensures { λ r. ⌜ now (out .exit) ≡ paste (now (out .entry)) 0 (loadedLine jumped ++ writeLines (remainingWrites (now (chip .entry)) cursor) ++ endLine end writes) (14 + 27 * length (remainingWrites (now (chip .entry)) cursor) + length (endLine end writes)) ⌝ }
 {
     put_loaded(out, 0, jumped);
     let after = put_writes(chip, cursor, out, LOADED);

@@ -9,21 +9,22 @@ use lib.Dec.{leb}
 use lib.ListN.{length, take, drop, length-append}
 use lib.Seq.{take-at}
 use Rattle.base.specs.Question.{ask}
+use Rattle.base.specs.Output.{frontFilled}
 use Rattle.mcs.specs.Reading.{Reading, Holds, Refused, readText}
-use Rattle.mcs.specs.Answers.{answerOf, filledBy, readAnswer, readOutput}
+use Rattle.mcs.specs.Reader.{answerOf, heldOutput, readAnswer, readOutput}
 use Rattle.mcs.specs.Passes.{sizeOf, Fits}
-use Rattle.mcs.specs.declared.reader.ReadAnswer.the-variants.{Read, Refused as ReadRefused}
+use Rattle.mcs.specs.Types.{Read, ReadRefused}
 use Rattle.mcs.proofs.FileLaws.{holds-room}
 use Rattle.mcs.specs.declared.reader.Size.the-variants.{Total, Refused as SizeRefused}
 
 module _ (buffer : List ℕ) where
-  pub refused-answer : (r : Reading) (number place : ℕ) → sizeOf r ≡ SizeRefused number place → (answerOf r (length buffer) ≡ ReadRefused number place) × (filledBy r buffer ≡ buffer)
-  unfolding sizeOf answerOf filledBy
+  pub refused-answer : (r : Reading) (number place : ℕ) → sizeOf r ≡ SizeRefused number place → (answerOf r (length buffer) ≡ ReadRefused number place) × (heldOutput r buffer ≡ buffer)
+  unfolding sizeOf answerOf heldOutput
   refused-answer (Holds image) number place e = let z : _≡_ {A = ℕ} 0 1 = cc in absurd (omega arith)
   refused-answer (Refused n p) number place e = let a : n ≡ number = cc in let b : p ≡ place = cc in (rw (a, b) refl, refl)
 
-  pub small-answer : (r : Reading) (n : ℕ) → sizeOf r ≡ Total n → length buffer < n → (answerOf r (length buffer) ≡ ReadRefused 19 0) × (filledBy r buffer ≡ buffer)
-  unfolding sizeOf answerOf filledBy ask
+  pub small-answer : (r : Reading) (n : ℕ) → sizeOf r ≡ Total n → length buffer < n → (answerOf r (length buffer) ≡ ReadRefused 19 0) × (heldOutput r buffer ≡ buffer)
+  unfolding sizeOf answerOf heldOutput frontFilled ask
   small-answer (Holds image) n e h = let a : length image ≡ n = cc in (rw (lt-leb (length image) (length buffer) (omega arith)) refl, rw (lt-leb (length image) (length buffer) (omega arith)) refl)
   small-answer (Refused number place) n e h = let z : _≡_ {A = ℕ} 0 1 = cc in absurd (omega arith)
 
@@ -36,14 +37,14 @@ module _ (buffer : List ℕ) where
 
 pub read-says : (text buffer : List ℕ) (n : ℕ) → readAnswer text buffer ≡ Read n →
     (image : List ℕ) × ((readText text ≡ Holds image) × ((n ≤ length (readOutput text buffer)) × (take n (readOutput text buffer) ≡ image)))
-unfolding answerOf filledBy ask
+unfolding answerOf heldOutput frontFilled ask
 read-says text buffer n e = go (readText text) refl e
   where
-    go : (r : Reading) → readText text ≡ r → answerOf r (length buffer) ≡ Read n → (image : List ℕ) × ((readText text ≡ Holds image) × ((n ≤ length (filledBy (readText text) buffer)) × (take n (filledBy (readText text) buffer) ≡ image)))
+    go : (r : Reading) → readText text ≡ r → answerOf r (length buffer) ≡ Read n → (image : List ℕ) × ((readText text ≡ Holds image) × ((n ≤ length (heldOutput (readText text) buffer)) × (take n (heldOutput (readText text) buffer) ≡ image)))
     go (Refused number place) q a = let z : _≡_ {A = ℕ} 0 1 = cc in absurd (omega arith)
     go (Holds image) q a = fits (leb (length image) (length buffer)) refl a
       where
-        fits : (b : Bool) → leb (length image) (length buffer) ≡ b → ask b (ReadRefused 19 0) (Read (length image)) ≡ Read n → (image : List ℕ) × ((readText text ≡ Holds image) × ((n ≤ length (filledBy (readText text) buffer)) × (take n (filledBy (readText text) buffer) ≡ image)))
+        fits : (b : Bool) → leb (length image) (length buffer) ≡ b → ask b (ReadRefused 19 0) (Read (length image)) ≡ Read n → (image : List ℕ) × ((readText text ≡ Holds image) × ((n ≤ length (heldOutput (readText text) buffer)) × (take n (heldOutput (readText text) buffer) ≡ image)))
         fits false l a = let z : _≡_ {A = ℕ} 0 1 = cc in absurd (omega arith)
         fits true l a =
             let long : length image ≡ n = cc in

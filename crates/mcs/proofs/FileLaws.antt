@@ -10,11 +10,11 @@ use lib.ListN.{length, length-append}
 use Rattle.base.proofs.Laws.{false-true}
 use Rattle.base.specs.Question.{ask}
 use Rattle.digits.specs.Digit.{hex}
-use Rattle.mcsline.specs.Record.{LF, CR, COLON, Ending, Lf, CrLf, endingText, lineText, Record, Data, Upper, End, pairsOf, Line, Row, recordText, AllBytes, Fit}
+use Rattle.mcsline.specs.Record.{LF, CR, COLON, Ending, Lf, CrLf, endingText, lineText, Record, Data, ExtendedLinearAddress, End, pairsOf, Line, Row, recordText, AllBytes, Fit}
 use Rattle.mcsline.specs.Line.{Parsed, Is, Refuses, parsed}
 use Rattle.mcsline.proofs.Laws.{not-lf, pairs-bytes, text-parsed, parsed-text, record-room}
 use Rattle.mcs.specs.Text.{fileText, FileFrom, FileOf}
-use Rattle.mcs.specs.Reading.{follows, before, linesOf, isEmpty, Holds, readFrom, readText}
+use Rattle.mcs.specs.Reading.{follows, prepend, linesOf, isEmpty, Holds, readLines, readText}
 use Rattle.mcs.proofs.LinesLaws.{lines-none, lines-lf, lines-on, before-line}
 use Rattle.mcs.proofs.ReadingLaws.{read-none, read-refused, read-apart, read-data, read-upper, read-end, read-more, none-none, none-some}
 use Rattle.mcs.proofs.FillLaws.{refused-holds}
@@ -24,11 +24,11 @@ use Rattle.mcs.proofs.FillLaws.{refused-holds}
 lines-ending : (e : Ending) (rest : List ℕ) → linesOf (endingText e ++ rest) ≡ endingText e ∷ linesOf rest
 unfolding endingText
 lines-ending Lf rest = lines-lf LF rest refl
-lines-ending CrLf rest = lines-on CR (LF ∷ rest) refl ∙ ap (before CR) (lines-lf LF rest refl) ∙ before-line CR (LF ∷ []) (linesOf rest)
+lines-ending CrLf rest = lines-on CR (LF ∷ rest) refl ∙ ap (prepend CR) (lines-lf LF rest refl) ∙ before-line CR (LF ∷ []) (linesOf rest)
 
 -- a character before a first line
 lines-before : (c : ℕ) (line rest : List ℕ) → eqb c LF ≡ false → linesOf (line ++ rest) ≡ line ∷ linesOf rest → linesOf (c ∷ line ++ rest) ≡ (c ∷ line) ∷ linesOf rest
-lines-before c line rest h e = lines-on c (line ++ rest) h ∙ ap (before c) e ∙ before-line c line (linesOf rest)
+lines-before c line rest h e = lines-on c (line ++ rest) h ∙ ap (prepend c) e ∙ before-line c line (linesOf rest)
 
 lines-hex : (ps : List ℕ) (e : Ending) (rest : List ℕ) → AllBytes ps → linesOf ((hex ps ++ endingText e) ++ rest) ≡ (hex ps ++ endingText e) ∷ linesOf rest
 unfolding hex AllBytes
@@ -45,8 +45,8 @@ unfoldable pub joined : List (List ℕ) → List ℕ
 joined [] = []
 joined (line ∷ lines) = line ++ joined lines
 
-joined-before : (c : ℕ) (lines : List (List ℕ)) → joined (before c lines) ≡ c ∷ joined lines
-unfolding joined before
+joined-before : (c : ℕ) (lines : List (List ℕ)) → joined (prepend c lines) ≡ c ∷ joined lines
+unfolding joined prepend
 joined-before c [] = refl
 joined-before c (line ∷ lines) = refl
 
@@ -85,7 +85,7 @@ fit-end : Fit End
 unfolding Fit
 fit-end = tt
 
-pub file-reads : (lines : List Line) (place half : ℕ) (image whole : List ℕ) → FileFrom half image lines whole → readFrom (linesOf (fileText lines)) place half image ≡ Holds whole
+pub file-reads : (lines : List Line) (place half : ℕ) (image whole : List ℕ) → FileFrom half image lines whole → readLines (linesOf (fileText lines)) place half image ≡ Holds whole
 unfolding FileFrom
 file-reads [] place half image whole h = absurd h
 file-reads (Row (Data address bytes) e ∷ lines) place half image whole h =
@@ -94,11 +94,11 @@ file-reads (Row (Data address bytes) e ∷ lines) place half image whole h =
     rw (lines-file (Data address bytes) e lines (h .0))
     (read-data t l place half image address bytes (text-parsed (Data address bytes) e (h .0)) (follows-true half address (length image) (length bytes) (h .1) (h .2))
     ∙ file-reads lines (place + length t) half (image ++ bytes) whole (h .3))
-file-reads (Row (Upper upper) e ∷ lines) place half image whole h =
+file-reads (Row (ExtendedLinearAddress upper) e ∷ lines) place half image whole h =
     let l = linesOf (fileText lines) in
-    let t = recordText (Row (Upper upper) e) in
-    rw (lines-file (Upper upper) e lines (h .0))
-    (read-upper t l place half image upper (text-parsed (Upper upper) e (h .0)) ∙ file-reads lines (place + length t) upper image whole (h .1))
+    let t = recordText (Row (ExtendedLinearAddress upper) e) in
+    rw (lines-file (ExtendedLinearAddress upper) e lines (h .0))
+    (read-upper t l place half image upper (text-parsed (ExtendedLinearAddress upper) e (h .0)) ∙ file-reads lines (place + length t) upper image whole (h .1))
 file-reads (Row End e ∷ lines) place half image whole h =
     rw (lines-file End e lines fit-end)
     (read-end (recordText (Row End e)) (linesOf (fileText lines)) place half image (text-parsed End e fit-end) (ap (λ (l : List Line). isEmpty (linesOf (fileText l))) (h .0) ∙ ap isEmpty no-file ∙ none-none)
@@ -121,13 +121,13 @@ written-more : (text : List ℕ) (texts : List (List ℕ)) (row : Line) (lines :
 unfolding joined fileText
 written-more text texts row lines e f = ap₂ _++_ e f
 
-pub reads-file : (texts : List (List ℕ)) (place half : ℕ) (image whole : List ℕ) → readFrom texts place half image ≡ Holds whole → Written half image texts whole
+pub reads-file : (texts : List (List ℕ)) (place half : ℕ) (image whole : List ℕ) → readLines texts place half image ≡ Holds whole → Written half image texts whole
 unfolding FileFrom
 reads-file [] place half image whole e = absurd (refused-holds (sym (read-none place half image) ∙ e))
 reads-file (text ∷ texts) place half image whole e = go (parsed text) refl (λ upper longer. reads-file texts (place + length text) upper longer whole)
   where
     rule : (b : Bool) (address : ℕ) (bytes : List ℕ) → parsed text ≡ Is (Data address bytes) → follows half address (length image) (length bytes) ≡ b →
-        ((upper : ℕ) (longer : List ℕ) → readFrom texts (place + length text) upper longer ≡ Holds whole → Written upper longer texts whole) → Written half image (text ∷ texts) whole
+        ((upper : ℕ) (longer : List ℕ) → readLines texts (place + length text) upper longer ≡ Holds whole → Written upper longer texts whole) → Written half image (text ∷ texts) whole
     rule true address bytes p f ih =
         let w : Written half (image ++ bytes) texts whole = ih half (image ++ bytes) (sym (read-data text texts place half image address bytes p f) ∙ e) in
         let t : (x : Ending) × ((text ≡ recordText (Row (Data address bytes) x)) × Fit (Data address bytes)) = parsed-text text (Data address bytes) p in
@@ -144,13 +144,13 @@ reads-file (text ∷ texts) place half image whole e = go (parsed text) refl (λ
         (Row End (t .0) ∷ [], (written-more text texts (Row End (t .0)) [] (t .1 .0) n, (refl, g)))
     last false p f = absurd (refused-holds (sym (read-more text texts place half image p f) ∙ e))
 
-    go : (p : Parsed) → parsed text ≡ p → ((upper : ℕ) (longer : List ℕ) → readFrom texts (place + length text) upper longer ≡ Holds whole → Written upper longer texts whole) → Written half image (text ∷ texts) whole
+    go : (p : Parsed) → parsed text ≡ p → ((upper : ℕ) (longer : List ℕ) → readLines texts (place + length text) upper longer ≡ Holds whole → Written upper longer texts whole) → Written half image (text ∷ texts) whole
     go (Refuses number) p ih = absurd (refused-holds (sym (read-refused text texts place half image number p) ∙ e))
     go (Is (Data address bytes)) p ih = rule (follows half address (length image) (length bytes)) address bytes p refl ih
-    go (Is (Upper upper)) p ih =
+    go (Is (ExtendedLinearAddress upper)) p ih =
         let w : Written upper image texts whole = ih upper image (sym (read-upper text texts place half image upper p) ∙ e) in
-        let t : (x : Ending) × ((text ≡ recordText (Row (Upper upper) x)) × Fit (Upper upper)) = parsed-text text (Upper upper) p in
-        (Row (Upper upper) (t .0) ∷ w .0, (written-more text texts (Row (Upper upper) (t .0)) (w .0) (t .1 .0) (w .1 .0), (t .1 .1, w .1 .1)))
+        let t : (x : Ending) × ((text ≡ recordText (Row (ExtendedLinearAddress upper) x)) × Fit (ExtendedLinearAddress upper)) = parsed-text text (ExtendedLinearAddress upper) p in
+        (Row (ExtendedLinearAddress upper) (t .0) ∷ w .0, (written-more text texts (Row (ExtendedLinearAddress upper) (t .0)) (w .0) (t .1 .0) (w .1 .0), (t .1 .1, w .1 .1)))
     go (Is End) p ih = last (isEmpty texts) p refl
 
 -- THE READER AND THE FORMAT: the text of a file of an image holds the image, and a text that holds an image is that of a file of it.
@@ -174,9 +174,9 @@ file-room (Row (Data address bytes) e ∷ lines) half image whole h =
     let b = length-append (recordText (Row (Data address bytes) e)) (fileText lines) in
     let c = record-room address bytes e in
     omega arith
-file-room (Row (Upper upper) e ∷ lines) half image whole h =
+file-room (Row (ExtendedLinearAddress upper) e ∷ lines) half image whole h =
     let more = file-room lines upper image whole (h .1) in
-    let b = length-append (recordText (Row (Upper upper) e)) (fileText lines) in
+    let b = length-append (recordText (Row (ExtendedLinearAddress upper) e)) (fileText lines) in
     omega arith
 file-room (Row End e ∷ lines) half image whole h = let same : length image ≡ length whole = ap (λ (l : List ℕ). length l) (h .1) in omega arith
 

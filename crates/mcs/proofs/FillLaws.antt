@@ -9,15 +9,15 @@ use lib.Dec.{ltb}
 use lib.ListN.{length, drop, length-append, length-drop}
 use lib.Seq.{paste, take-at, take-length, drop-append-add, drop-drop}
 use Rattle.base.specs.Question.{ask}
+use Rattle.base.specs.Output.{frontFilled}
 use Rattle.digits.specs.Pairs.{ArePairs, pairsAt}
-use Rattle.mcsline.specs.Record.{Data, Upper, End}
+use Rattle.mcsline.specs.Record.{Data, ExtendedLinearAddress, End}
 use Rattle.mcsline.specs.Line.{Parsed, Is, Refuses, parsed}
 use Rattle.mcsline.specs.Place.{lineAt, Sound, asLine}
-use Rattle.mcsline.specs.declared.line.Line.{Line}
-use Rattle.mcsline.specs.declared.line.Line.the-variants.{Data as DataLine, Upper as UpperLine, End as EndLine, Refused as LineRefused}
+use Rattle.mcs.specs.Types.{LineAnswer, DataLine, ExtendedLinearAddressLine, EndLine, LineRefused}
 use Rattle.mcsline.proofs.Laws.{after, line-long, line-upper, line-end, line-refused, DataAt, told-bytes, told-data}
-use Rattle.mcs.specs.Reading.{follows, isEmpty, Reading, Holds, Refused, readFrom, readText}
-use Rattle.mcs.specs.Answers.{filledBy}
+use Rattle.mcs.specs.Reading.{follows, isEmpty, Reading, Holds, Refused, readLines, readText}
+use Rattle.mcs.specs.Reader.{heldOutput}
 use Rattle.mcs.specs.Passes.{Fits}
 use Rattle.mcs.proofs.ReadingLaws.{readAt, read-none, read-refused, read-apart, read-data, read-upper, read-end, read-more, at-none, at-refused, at-apart, at-data, at-upper, at-end, at-more}
 
@@ -29,15 +29,15 @@ unfolding Fits
 fits-holds (Holds image) room h = (image, (refl, h))
 fits-holds (Refused number place) room h = absurd h
 
-pub holds-filled : (whole before : List ℕ) → length whole ≤ length before → filledBy (Holds whole) before ≡ whole ++ drop (length whole) before
-unfolding filledBy ask
+pub holds-filled : (whole before : List ℕ) → length whole ≤ length before → heldOutput (Holds whole) before ≡ whole ++ drop (length whole) before
+unfolding heldOutput frontFilled ask
 holds-filled whole before h = rw (le-leb (length whole) (length before) h) refl
 
 -- a reading only adds to the image
 abbrev Grows : List (List ℕ) → ℕ → List ℕ → Type 0
-Grows lines place whole = (half : ℕ) (image : List ℕ) → readFrom lines place half image ≡ Holds whole → length image ≤ length whole
+Grows lines place whole = (half : ℕ) (image : List ℕ) → readLines lines place half image ≡ Holds whole → length image ≤ length whole
 
-pub grows : (lines : List (List ℕ)) (place half : ℕ) (image whole : List ℕ) → readFrom lines place half image ≡ Holds whole → length image ≤ length whole
+pub grows : (lines : List (List ℕ)) (place half : ℕ) (image whole : List ℕ) → readLines lines place half image ≡ Holds whole → length image ≤ length whole
 grows [] place half image whole e = absurd (refused-holds (sym (read-none place half image) ∙ e))
 grows (line ∷ lines) place half image whole e = go (parsed line) refl (λ upper longer. grows lines (place + length line) upper longer whole)
   where
@@ -54,7 +54,7 @@ grows (line ∷ lines) place half image whole e = go (parsed line) refl (λ uppe
     go : (p : Parsed) → parsed line ≡ p → Grows lines (place + length line) whole → length image ≤ length whole
     go (Refuses number) p ih = absurd (refused-holds (sym (read-refused line lines place half image number p) ∙ e))
     go (Is (Data address bytes)) p ih = by-rule ih (follows half address (length image) (length bytes)) address bytes p refl
-    go (Is (Upper upper)) p ih = ih upper image (sym (read-upper line lines place half image upper p) ∙ e)
+    go (Is (ExtendedLinearAddress upper)) p ih = ih upper image (sym (read-upper line lines place half image upper p) ∙ e)
     go (Is End) p ih = by-none (isEmpty lines) p refl
 
 -- bytes put in after the image so far
@@ -100,25 +100,25 @@ module _ (text before out : List ℕ) (at next : ℕ) (filled : Filled text befo
     pub fill-sound : Sound (lineAt text at)
     fill-sound number e = refused-holds (sym (at-refused text at (filled .0) (filled .1 .0) inside number e) ∙ holds)
 
-    module _ (line : Line) (is : line ≡ asLine (parsed (lineAt text at)) (after text at)) where
+    module _ (line : LineAnswer) (is : line ≡ asLine (parsed (lineAt text at)) (after text at)) where
       pub fill-refused : (number : ℕ) → line ≡ LineRefused number → ⊥
       fill-refused number e = fill-sound number (line-refused (parsed (lineAt text at)) (after text at) number (sym is ∙ e))
 
-      pub fill-upper : (upper end : ℕ) → line ≡ UpperLine upper end → Filled text before out end next × (at < end) × (end ≤ length text)
+      pub fill-upper : (upper end : ℕ) → line ≡ ExtendedLinearAddressLine upper end → Filled text before out end next × (at < end) × (end ≤ length text)
       fill-upper upper end e =
-          let l : (parsed (lineAt text at) ≡ Is (Upper upper)) × (after text at ≡ end) = line-upper (parsed (lineAt text at)) (after text at) upper end (sym is ∙ e) in
+          let l : (parsed (lineAt text at) ≡ Is (ExtendedLinearAddress upper)) × (after text at ≡ end) = line-upper (parsed (lineAt text at)) (after text at) upper end (sym is ∙ e) in
           let b : (1 ≤ length (lineAt text at)) × (after text at ≤ length text) = line-long text at inside in
           let r : readAt text end upper (filled .1 .0) ≡ readText text = rw (l .1) at (sym (at-upper text at (filled .0) (filled .1 .0) inside upper (l .0)) ∙ filled .1 .1 .1) in
           let f : Filled text before out end next = (upper, (filled .1 .0, (filled .1 .1 .0, r, filled .1 .1 .2))) in
           (f, omega arith, omega arith)
 
-      pub fill-end : (end : ℕ) → line ≡ EndLine end → out ≡ filledBy (readText text) before
+      pub fill-end : (end : ℕ) → line ≡ EndLine end → out ≡ heldOutput (readText text) before
       fill-end end e = go (ltb (after text at) (length text)) refl
         where
           last : parsed (lineAt text at) ≡ Is End
           last = line-end (parsed (lineAt text at)) (after text at) end (sym is ∙ e) .0
 
-          go : (b : Bool) → ltb (after text at) (length text) ≡ b → out ≡ filledBy (readText text) before
+          go : (b : Bool) → ltb (after text at) (length text) ≡ b → out ≡ heldOutput (readText text) before
           go true h = absurd (refused-holds (sym (at-more text at (filled .0) (filled .1 .0) inside last (ltb-true _ _ h)) ∙ holds))
           go false h =
               let q : readText text ≡ Holds (filled .1 .0) = sym (filled .1 .1 .1) ∙ at-end text at (filled .0) (filled .1 .0) inside last (ltb-false _ _ h) in

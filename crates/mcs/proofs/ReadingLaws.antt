@@ -6,44 +6,43 @@ use mathlib.Core.List.{List, [], _∷_, _++_}
 use native.Mathlib.Omega.{arith}
 use lib.ListN.{length, length-append, drop, drop-of-length-le}
 use Rattle.base.specs.Question.{ask}
-use Rattle.mcsline.specs.Record.{Data, Upper, End}
+use Rattle.mcsline.specs.Record.{Data, ExtendedLinearAddress, End}
 use Rattle.mcsline.specs.Line.{Is, Refuses, parsed, byParsed}
 use Rattle.mcsline.specs.Place.{lineAt, asLine}
-use Rattle.mcsline.specs.declared.line.Line.{Line}
-use Rattle.mcsline.specs.declared.line.Line.the-variants.{Data as DataLine, Upper as UpperLine, End as EndLine, Refused as LineRefused}
+use Rattle.mcs.specs.Types.{LineAnswer, DataLine, ExtendedLinearAddressLine, EndLine, LineRefused}
 use Rattle.mcsline.proofs.Laws.{after, line-long, line-upper, line-end, line-refused, told-bytes}
-use Rattle.mcs.specs.Reading.{follows, linesOf, isEmpty, Reading, Holds, Refused, readFrom, readText}
+use Rattle.mcs.specs.Reading.{follows, linesOf, isEmpty, Reading, Holds, Refused, readLines, readText}
 use Rattle.mcs.proofs.LinesLaws.{lines-none, line-first}
 
 -- One line more.
 
-pub read-none : (place half : ℕ) (image : List ℕ) → readFrom [] place half image ≡ Refused 18 place
-unfolding readFrom
+pub read-none : (place half : ℕ) (image : List ℕ) → readLines [] place half image ≡ Refused 18 place
+unfolding readLines
 read-none place half image = refl
 
 module _ (line : List ℕ) (lines : List (List ℕ)) (place half : ℕ) (image : List ℕ) where
-  pub read-refused : (number : ℕ) → parsed line ≡ Refuses number → readFrom (line ∷ lines) place half image ≡ Refused number place
-  unfolding readFrom byParsed
+  pub read-refused : (number : ℕ) → parsed line ≡ Refuses number → readLines (line ∷ lines) place half image ≡ Refused number place
+  unfolding readLines byParsed
   read-refused number e = rw e refl
 
-  pub read-apart : (address : ℕ) (bytes : List ℕ) → parsed line ≡ Is (Data address bytes) → follows half address (length image) (length bytes) ≡ false → readFrom (line ∷ lines) place half image ≡ Refused 17 place
-  unfolding readFrom byParsed ask
+  pub read-apart : (address : ℕ) (bytes : List ℕ) → parsed line ≡ Is (Data address bytes) → follows half address (length image) (length bytes) ≡ false → readLines (line ∷ lines) place half image ≡ Refused 17 place
+  unfolding readLines byParsed ask
   read-apart address bytes e f = rw e (rw f refl)
 
-  pub read-data : (address : ℕ) (bytes : List ℕ) → parsed line ≡ Is (Data address bytes) → follows half address (length image) (length bytes) ≡ true → readFrom (line ∷ lines) place half image ≡ readFrom lines (place + length line) half (image ++ bytes)
-  unfolding readFrom byParsed ask
+  pub read-data : (address : ℕ) (bytes : List ℕ) → parsed line ≡ Is (Data address bytes) → follows half address (length image) (length bytes) ≡ true → readLines (line ∷ lines) place half image ≡ readLines lines (place + length line) half (image ++ bytes)
+  unfolding readLines byParsed ask
   read-data address bytes e f = rw e (rw f refl)
 
-  pub read-upper : (upper : ℕ) → parsed line ≡ Is (Upper upper) → readFrom (line ∷ lines) place half image ≡ readFrom lines (place + length line) upper image
-  unfolding readFrom byParsed
+  pub read-upper : (upper : ℕ) → parsed line ≡ Is (ExtendedLinearAddress upper) → readLines (line ∷ lines) place half image ≡ readLines lines (place + length line) upper image
+  unfolding readLines byParsed
   read-upper upper e = rw e refl
 
-  pub read-end : parsed line ≡ Is End → isEmpty lines ≡ true → readFrom (line ∷ lines) place half image ≡ Holds image
-  unfolding readFrom byParsed ask
+  pub read-end : parsed line ≡ Is End → isEmpty lines ≡ true → readLines (line ∷ lines) place half image ≡ Holds image
+  unfolding readLines byParsed ask
   read-end e f = rw e (rw f refl)
 
-  pub read-more : parsed line ≡ Is End → isEmpty lines ≡ false → readFrom (line ∷ lines) place half image ≡ Refused 18 (place + length line)
-  unfolding readFrom byParsed ask
+  pub read-more : parsed line ≡ Is End → isEmpty lines ≡ false → readLines (line ∷ lines) place half image ≡ Refused 18 (place + length line)
+  unfolding readLines byParsed ask
   read-more e f = rw e (rw f refl)
 
 pub none-none : isEmpty [] ≡ true
@@ -57,7 +56,7 @@ none-some line lines = refl
 -- The same by the line's place in the text.
 module _ (text : List ℕ) where
   abbrev pub readAt : ℕ → ℕ → List ℕ → Reading
-  readAt at half image = readFrom (linesOf (drop at text)) at half image
+  readAt at half image = readLines (linesOf (drop at text)) at half image
 
   lines-end : (at : ℕ) → length text ≤ at → linesOf (drop at text) ≡ []
   lines-end at h = ap linesOf (drop-of-length-le text h) ∙ lines-none
@@ -75,7 +74,7 @@ module _ (text : List ℕ) where
     pub at-data : (address : ℕ) (bytes : List ℕ) → parsed (lineAt text at) ≡ Is (Data address bytes) → follows half address (length image) (length bytes) ≡ true → readAt at half image ≡ readAt (after text at) half (image ++ bytes)
     at-data address bytes e f = rw (line-first text at inside) (read-data (lineAt text at) (linesOf (drop (after text at) text)) at half image address bytes e f)
 
-    pub at-upper : (upper : ℕ) → parsed (lineAt text at) ≡ Is (Upper upper) → readAt at half image ≡ readAt (after text at) upper image
+    pub at-upper : (upper : ℕ) → parsed (lineAt text at) ≡ Is (ExtendedLinearAddress upper) → readAt at half image ≡ readAt (after text at) upper image
     at-upper upper e = rw (line-first text at inside) (read-upper (lineAt text at) (linesOf (drop (after text at) text)) at half image upper e)
 
     pub at-end : parsed (lineAt text at) ≡ Is End → length text ≤ after text at → readAt at half image ≡ Holds image
@@ -93,14 +92,14 @@ abbrev pub Reached : List ℕ → ℕ → ℕ → ℕ → Type 0
 Reached text at half next = (image : List ℕ) × ((length image ≡ next) × (readAt text at half image ≡ readText text))
 
 module _ (text : List ℕ) (at half next : ℕ) (inside : at < length text) (reached : Reached text at half next)
-    (line : Line) (is : line ≡ asLine (parsed (lineAt text at)) (after text at)) where
+    (line : LineAnswer) (is : line ≡ asLine (parsed (lineAt text at)) (after text at)) where
   pub pass-refused : (number : ℕ) → line ≡ LineRefused number → readText text ≡ Refused number at
   pass-refused number e =
       sym (reached .1 .1) ∙ at-refused text at half (reached .0) inside number (line-refused (parsed (lineAt text at)) (after text at) number (sym is ∙ e))
 
-  pub pass-upper : (upper end : ℕ) → line ≡ UpperLine upper end → Reached text end upper next × (at < end) × (end ≤ length text)
+  pub pass-upper : (upper end : ℕ) → line ≡ ExtendedLinearAddressLine upper end → Reached text end upper next × (at < end) × (end ≤ length text)
   pass-upper upper end e =
-      let l : (parsed (lineAt text at) ≡ Is (Upper upper)) × (after text at ≡ end) = line-upper (parsed (lineAt text at)) (after text at) upper end (sym is ∙ e) in
+      let l : (parsed (lineAt text at) ≡ Is (ExtendedLinearAddress upper)) × (after text at ≡ end) = line-upper (parsed (lineAt text at)) (after text at) upper end (sym is ∙ e) in
       let b : (1 ≤ length (lineAt text at)) × (after text at ≤ length text) = line-long text at inside in
       let r : Reached text end upper next = (reached .0, (reached .1 .0, rw (l .1) at (sym (at-upper text at half (reached .0) inside upper (l .0)) ∙ reached .1 .1))) in
       (r, omega arith, omega arith)

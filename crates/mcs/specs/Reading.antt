@@ -4,21 +4,22 @@ use mathlib.Core.Bool.{Bool, true, false}
 use mathlib.Core.List.{List, [], _∷_, _++_}
 use lib.Dec.{eqb, leb}
 use lib.ListN.{length}
+use Rattle.base.specs.Refusal.{badAddress, badEnd}
 use Rattle.base.specs.Question.{ask}
 use Rattle.mcsline.specs.Record.{LF}
 use Rattle.mcsline.specs.Line.{parsed, byParsed}
 
 -- Lines.
 
--- a character put before the first line
-unfoldable pub before : ℕ → List (List ℕ) → List (List ℕ)
-before c [] = (c ∷ []) ∷ []
-before c (line ∷ lines) = (c ∷ line) ∷ lines
+-- a character before the first line
+unfoldable pub prepend : ℕ → List (List ℕ) → List (List ℕ)
+prepend c [] = (c ∷ []) ∷ []
+prepend c (line ∷ lines) = (c ∷ line) ∷ lines
 
--- The lines of a text, each with its LF. What stands after the last LF is a line too: one without its end.
+-- The lines of a text, each with its LF. What follows the last LF is a line too: one without its end.
 unfoldable pub linesOf : List ℕ → List (List ℕ)
 linesOf [] = []
-linesOf (c ∷ cs) = elim (eqb c LF) [ true ↦ (c ∷ []) ∷ linesOf cs | false ↦ before c (linesOf cs) ]
+linesOf (c ∷ cs) = elim (eqb c LF) [ true ↦ (c ∷ []) ∷ linesOf cs | false ↦ prepend c (linesOf cs) ]
 
 -- The file.
 
@@ -37,14 +38,14 @@ isEmpty [] = true
 isEmpty (line ∷ lines) = false
 
 -- Lines in order, from a place on, with the upper half in force and the image so far; the last is the end record, with nothing after it.
-unfoldable pub readFrom : List (List ℕ) → ℕ → ℕ → List ℕ → Reading
-readFrom [] place half image = Refused 18 place
-readFrom (line ∷ lines) place half image =
+unfoldable pub readLines : List (List ℕ) → ℕ → ℕ → List ℕ → Reading
+readLines [] place half image = Refused badEnd place
+readLines (line ∷ lines) place half image =
     byParsed (parsed line)
     (λ number. Refused number place)
-    (λ address bytes. ask (follows half address (length image) (length bytes)) (Refused 17 place) (readFrom lines (place + length line) half (image ++ bytes)))
-    (λ upper. readFrom lines (place + length line) upper image)
-    (ask (isEmpty lines) (Refused 18 (place + length line)) (Holds image))
+    (λ address bytes. ask (follows half address (length image) (length bytes)) (Refused badAddress place) (readLines lines (place + length line) half (image ++ bytes)))
+    (λ upper. readLines lines (place + length line) upper image)
+    (ask (isEmpty lines) (Refused badEnd (place + length line)) (Holds image))
 
 abbrev pub readText : List ℕ → Reading
-readText text = readFrom (linesOf text) 0 0 []
+readText text = readLines (linesOf text) 0 0 []

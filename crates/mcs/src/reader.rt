@@ -2,13 +2,14 @@
 ghost use mathlib.Core.Path.{_≡_};
 ghost use Prim.Native.Nat.{_^_, _<_};
 ghost use lib.ListN.{length};
-ghost use Rattle.digits.specs.Pairs.{DigitTable};
+ghost use Rattle.digits.specs.Table.{DigitTable};
 ghost use Rattle.mcs.specs.Reading.{follows, readText};
-ghost use Rattle.mcs.specs.Answers.{readAnswer, readOutput};
+ghost use Rattle.mcs.specs.Reader.{readAnswer, readOutput};
 ghost use Rattle.mcs.specs.Passes.{sizeOf, Fits};
-use digits::bytes::decode;
+use base::refusal;
+use digits::pairs::decode;
 use digits::table::digit_values;
-use mcsline::line::Line;
+use mcsline::line::LineAnswer;
 use mcsline::line::parse;
 use mcsline::line::parse_sound;
 
@@ -50,40 +51,40 @@ fn size_of(values: &[u8], text: &[u8]) -> Size
     while at < text.len() {
         let read = parse(values, text, at);
         match read {
-            Line::Data {
+            LineAnswer::Data {
                 address,
                 count,
                 end,
             } => {
                 if !follows_on(upper, address, next, count) {
                     return Size::Refused {
-                        number: 17,
+                        number: refusal::BAD_ADDRESS,
                         place: at,
                     };
                 }
                 next += count;
                 at = end;
             }
-            Line::Upper { half, end } => {
+            LineAnswer::ExtendedLinearAddress { half, end } => {
                 upper = half;
                 at = end;
             }
-            Line::End { end } => {
+            LineAnswer::End { end } => {
                 if end < text.len() {
                     return Size::Refused {
-                        number: 18,
+                        number: refusal::BAD_END,
                         place: end,
                     };
                 }
                 return Size::Total(next);
             }
-            Line::Refused { number } => {
+            LineAnswer::Refused { number } => {
                 return Size::Refused { number, place: at };
             }
         }
     }
     Size::Refused {
-        number: 18,
+        number: refusal::BAD_END,
         place: at,
     }
 }
@@ -98,7 +99,7 @@ fn fill(values: &[u8], text: &[u8], out: &mut [u8])
     while at < text.len() {
         let read = parse_sound(values, text, at);
         match read {
-            Line::Data {
+            LineAnswer::Data {
                 address: _,
                 count,
                 end,
@@ -107,13 +108,13 @@ fn fill(values: &[u8], text: &[u8], out: &mut [u8])
                 next += count;
                 at = end;
             }
-            Line::Upper { half: _, end } => {
+            LineAnswer::ExtendedLinearAddress { half: _, end } => {
                 at = end;
             }
-            Line::End { end: _ } => {
+            LineAnswer::End { end: _ } => {
                 return;
             }
-            Line::Refused { number: _ } => {
+            LineAnswer::Refused { number: _ } => {
                 return;
             }
         }
@@ -131,7 +132,7 @@ fn read_by(values: &[u8], text: &[u8], out: &mut [u8]) -> ReadAnswer
         Size::Total(length) => {
             if out.len() < length {
                 return ReadAnswer::Refused {
-                    number: 19,
+                    number: refusal::NO_ROOM,
                     place: 0,
                 };
             }
@@ -142,7 +143,8 @@ fn read_by(values: &[u8], text: &[u8], out: &mut [u8]) -> ReadAnswer
     }
 }
 
-// Reads a text into a buffer. A refusal leaves the buffer as it was.
+// Reads a text into a buffer: how many bytes of the image are at its front; or refusal 14 to 19, and the buffer as it
+// was.
 pub fn read(text: &[u8], out: &mut [u8]) -> ReadAnswer
     ensures answer { λ r. ⌜ r ≡ readAnswer (now (text .entry)) (now (out .entry)) ⌝ }
     ensures output { λ r. ⌜ now (out .exit) ≡ readOutput (now (text .entry)) (now (out .entry)) ⌝ }

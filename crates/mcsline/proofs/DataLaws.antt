@@ -6,11 +6,10 @@ use native.Mathlib.Omega.{arith}
 use lib.ListN.{length, take, drop}
 use Rattle.digits.specs.Pairs.{pairAt, ArePairs, pairsAt}
 use Rattle.digits.proofs.Laws.{length-pairs}
-use Rattle.mcsline.specs.Record.{Data, Upper, End}
+use Rattle.mcsline.specs.Record.{Data, ExtendedLinearAddress, End}
 use Rattle.mcsline.specs.Line.{countOf, twoAt, addressOf, Parsed, Is, Refuses, typed, parsed}
 use Rattle.mcsline.specs.Place.{endingAt, lineAt, Sound, Orderly, asLine}
-use Rattle.mcsline.specs.declared.line.Line.{Line}
-use Rattle.mcsline.specs.declared.line.Line.the-variants.{Data as DataLine, Upper as UpperLine, End as EndLine, Refused as LineRefused}
+use Rattle.mcsline.specs.Types.{LineAnswer, DataLine, ExtendedLinearAddressLine, EndLine, LineRefused}
 use Rattle.mcsline.proofs.LineLaws.{line-long}
 use Rattle.mcsline.proofs.TypeLaws.{Typing, as-data, as-end, as-upper, as-none, typing, linePairs, count-is, data-is}
 use Rattle.mcsline.proofs.ShapeLaws.{Formed, afterPairs, orderly, sound-formed, sound-typed}
@@ -25,28 +24,28 @@ pub line-data : (p : Parsed) (e address count end : ℕ) → asLine p e ≡ Data
 unfolding asLine
 line-data (Refuses number) e address count end h = let z : _≡_ {A = ℕ} 0 1 = cc in absurd (omega arith)
 line-data (Is (Data a bytes)) e address count end h = let q : a ≡ address = cc in (bytes, (rw q refl, cc, cc))
-line-data (Is (Upper half)) e address count end h = let z : _≡_ {A = ℕ} 0 1 = cc in absurd (omega arith)
+line-data (Is (ExtendedLinearAddress half)) e address count end h = let z : _≡_ {A = ℕ} 0 1 = cc in absurd (omega arith)
 line-data (Is End) e address count end h = let z : _≡_ {A = ℕ} 0 1 = cc in absurd (omega arith)
 
-pub line-upper : (p : Parsed) (e upper end : ℕ) → asLine p e ≡ UpperLine upper end → (p ≡ Is (Upper upper)) × (e ≡ end)
+pub line-upper : (p : Parsed) (e upper end : ℕ) → asLine p e ≡ ExtendedLinearAddressLine upper end → (p ≡ Is (ExtendedLinearAddress upper)) × (e ≡ end)
 unfolding asLine
 line-upper (Refuses number) e upper end h = let z : _≡_ {A = ℕ} 0 1 = cc in absurd (omega arith)
 line-upper (Is (Data a bytes)) e upper end h = let z : _≡_ {A = ℕ} 0 1 = cc in absurd (omega arith)
-line-upper (Is (Upper half)) e upper end h = let q : half ≡ upper = cc in (rw q refl, cc)
+line-upper (Is (ExtendedLinearAddress half)) e upper end h = let q : half ≡ upper = cc in (rw q refl, cc)
 line-upper (Is End) e upper end h = let z : _≡_ {A = ℕ} 0 1 = cc in absurd (omega arith)
 
 pub line-end : (p : Parsed) (e end : ℕ) → asLine p e ≡ EndLine end → (p ≡ Is End) × (e ≡ end)
 unfolding asLine
 line-end (Refuses number) e end h = let z : _≡_ {A = ℕ} 0 1 = cc in absurd (omega arith)
 line-end (Is (Data a bytes)) e end h = let z : _≡_ {A = ℕ} 0 1 = cc in absurd (omega arith)
-line-end (Is (Upper half)) e end h = let z : _≡_ {A = ℕ} 0 1 = cc in absurd (omega arith)
+line-end (Is (ExtendedLinearAddress half)) e end h = let z : _≡_ {A = ℕ} 0 1 = cc in absurd (omega arith)
 line-end (Is End) e end h = (refl, cc)
 
 pub line-refused : (p : Parsed) (e number : ℕ) → asLine p e ≡ LineRefused number → p ≡ Refuses number
 unfolding asLine
 line-refused (Refuses n) e number h = let q : n ≡ number = cc in rw q refl
 line-refused (Is (Data a bytes)) e number h = let z : _≡_ {A = ℕ} 0 1 = cc in absurd (omega arith)
-line-refused (Is (Upper half)) e number h = let z : _≡_ {A = ℕ} 0 1 = cc in absurd (omega arith)
+line-refused (Is (ExtendedLinearAddress half)) e number h = let z : _≡_ {A = ℕ} 0 1 = cc in absurd (omega arith)
 line-refused (Is End) e number h = let z : _≡_ {A = ℕ} 0 1 = cc in absurd (omega arith)
 
 -- A data record's bytes, by their place.
@@ -60,7 +59,7 @@ data-bytes pairs address bytes e = go (typing pairs)
     go : Typing pairs → bytes ≡ take (countOf pairs) (drop 4 pairs)
     go (as-data t n f) = let g : Is (Data (addressOf pairs) (take (countOf pairs) (drop 4 pairs))) ≡ Is (Data address bytes) = sym f ∙ e in cc
     go (as-end t n a f) = let g : Is End ≡ Is (Data address bytes) = sym f ∙ e in let z : _≡_ {A = ℕ} 0 1 = cc in absurd (omega arith)
-    go (as-upper t n a f) = let g : Is (Upper (twoAt pairs 4)) ≡ Is (Data address bytes) = sym f ∙ e in let z : _≡_ {A = ℕ} 0 1 = cc in absurd (omega arith)
+    go (as-upper t n a f) = let g : Is (ExtendedLinearAddress (twoAt pairs 4)) ≡ Is (Data address bytes) = sym f ∙ e in let z : _≡_ {A = ℕ} 0 1 = cc in absurd (omega arith)
     go (as-none f) = absurd (not-data (typed pairs) address bytes 16 f e)
 
 pub record DataAt (text : List ℕ) (at : ℕ) (bytes : List ℕ) : Type 0 where
@@ -86,7 +85,7 @@ data-at text at address bytes inside e =
     shifted text at count h j k = let e : at + 1 + 2 * (j + 4) ≡ at + 9 + 2 * j = omega arith in rw e at (h (j + 4) (omega arith))
 
 -- A data line that the code told of: its bytes, and how long it is.
-module _ (text : List ℕ) (at : ℕ) (inside : at < length text) (line : Line) (is : line ≡ asLine (parsed (lineAt text at)) (after text at))
+module _ (text : List ℕ) (at : ℕ) (inside : at < length text) (line : LineAnswer) (is : line ≡ asLine (parsed (lineAt text at)) (after text at))
     (address count end : ℕ) (e : line ≡ DataLine address count end) where
   pub told-bytes : (bytes : List ℕ) × ((parsed (lineAt text at) ≡ Is (Data address bytes)) × (length bytes ≡ count) × (after text at ≡ end))
   told-bytes = line-data (parsed (lineAt text at)) (after text at) address count end (sym is ∙ e)

@@ -8,9 +8,9 @@ use borrow.Author.Tests.{eqb-true, eqb-false}
 use lib.Dec.{eqb}
 use lib.ListN.{length, getD, take, length-append, drop-of-length-le}
 use lib.Seq.{take-append-seam, split-at, length-take-le}
-use Rattle.digits.specs.Digit.{hex, total}
+use Rattle.digits.specs.Digit.{hex, byteSum}
 use Rattle.digits.proofs.Laws.{hex-long}
-use Rattle.mcsline.specs.Record.{COLON, Ending, endingText, lineText, Record, Data, Upper, End, bodyOf, sumOf, pairsOf, Row, recordText, AllBytes, Fit}
+use Rattle.mcsline.specs.Record.{COLON, Ending, endingText, lineText, Record, Data, ExtendedLinearAddress, End, bodyOf, checksum, pairsOf, Row, recordText, AllBytes, Fit}
 use Rattle.mcsline.specs.Line.{Spelled, Pairs, Broken, lineSpells, countOf, Is, Refuses, typed, parsed}
 use Rattle.mcsline.proofs.TypeLaws.{Typing, as-data, as-end, as-upper, as-none, typing, typed-data, typed-end, typed-upper}
 use Rattle.mcsline.proofs.ShapeLaws.{parsed-broken, parsed-count, parsed-sum, parsed-typed}
@@ -35,10 +35,10 @@ bytes-take zero xs h = tt
 bytes-take (suc n) [] h = tt
 bytes-take (suc n) (x ∷ xs) h = (h .0, bytes-take n xs (h .1))
 
-total-end : (xs : List ℕ) (x : ℕ) → total (xs ++ x ∷ []) ≡ total xs + x
-unfolding total
+total-end : (xs : List ℕ) (x : ℕ) → byteSum (xs ++ x ∷ []) ≡ byteSum xs + x
+unfolding byteSum
 total-end [] x = omega arith
-total-end (y ∷ ys) x = let ih : total (ys ++ x ∷ []) ≡ total ys + x = total-end ys x in omega arith
+total-end (y ∷ ys) x = let ih : byteSum (ys ++ x ∷ []) ≡ byteSum ys + x = total-end ys x in omega arith
 
 sum-small : (t : ℕ) → (256 - t % 256) % 256 < 256
 sum-small t = omega arith
@@ -54,37 +54,37 @@ sum-only t s h e = omega arith
 body-bytes : (r : Record) → Fit r → AllBytes (bodyOf r)
 unfolding bodyOf Fit AllBytes
 body-bytes (Data address bytes) h = (omega arith, (omega arith, (omega arith, (omega arith, h .3))))
-body-bytes (Upper half) h = (omega arith, (omega arith, (omega arith, (omega arith, (omega arith, (omega arith, tt))))))
+body-bytes (ExtendedLinearAddress half) h = (omega arith, (omega arith, (omega arith, (omega arith, (omega arith, (omega arith, tt))))))
 body-bytes End h = (omega arith, (omega arith, (omega arith, (omega arith, tt))))
 
 pub pairs-bytes : (r : Record) → Fit r → AllBytes (pairsOf r)
-unfolding pairsOf sumOf
-pairs-bytes r h = bytes-end (bodyOf r) (sumOf (bodyOf r)) (body-bytes r h) (sum-small (total (bodyOf r)))
+unfolding pairsOf checksum
+pairs-bytes r h = bytes-end (bodyOf r) (checksum (bodyOf r)) (body-bytes r h) (sum-small (byteSum (bodyOf r)))
 
-pairs-sum : (r : Record) → total (pairsOf r) % 256 ≡ 0
-unfolding pairsOf sumOf
-pairs-sum r = rw (total-end (bodyOf r) (sumOf (bodyOf r))) (sum-fills (total (bodyOf r)))
+pairs-sum : (r : Record) → byteSum (pairsOf r) % 256 ≡ 0
+unfolding pairsOf checksum
+pairs-sum r = rw (total-end (bodyOf r) (checksum (bodyOf r))) (sum-fills (byteSum (bodyOf r)))
 
 body-long : (r : Record) → length (bodyOf r) ≡ countOf (pairsOf r) + 4
 unfolding pairsOf bodyOf
 body-long (Data address bytes) = omega arith
-body-long (Upper half) = refl
+body-long (ExtendedLinearAddress half) = refl
 body-long End = refl
 
 pairs-long : (r : Record) → length (pairsOf r) ≡ countOf (pairsOf r) + 5
 unfolding pairsOf
-pairs-long r = let l : length (bodyOf r ++ sumOf (bodyOf r) ∷ []) ≡ length (bodyOf r) + 1 = length-append (bodyOf r) (sumOf (bodyOf r) ∷ []) in let b : length (bodyOf r) ≡ countOf (pairsOf r) + 4 = body-long r in omega arith
+pairs-long r = let l : length (bodyOf r ++ checksum (bodyOf r) ∷ []) ≡ length (bodyOf r) + 1 = length-append (bodyOf r) (checksum (bodyOf r) ∷ []) in let b : length (bodyOf r) ≡ countOf (pairsOf r) + 4 = body-long r in omega arith
 
 pairs-typed : (r : Record) → Fit r → typed (pairsOf r) ≡ Is r
 unfolding pairsOf bodyOf Fit
 pairs-typed (Data address bytes) h =
-    let s = sumOf (bodyOf (Data address bytes)) in
+    let s = checksum (bodyOf (Data address bytes)) in
     let a : address / 256 * 256 + address % 256 ≡ address = omega arith in
     typed-data (pairsOf (Data address bytes)) refl (λ e. omega arith)
     ∙ ap₂ (λ (x : ℕ) (y : List ℕ). Is (Data x y)) a (take-append-seam bytes (s ∷ []))
-pairs-typed (Upper half) h =
+pairs-typed (ExtendedLinearAddress half) h =
     let a : half / 256 * 256 + half % 256 ≡ half = omega arith in
-    typed-upper (pairsOf (Upper half)) refl refl refl ∙ ap (λ (x : ℕ). Is (Upper x)) a
+    typed-upper (pairsOf (ExtendedLinearAddress half)) refl refl refl ∙ ap (λ (x : ℕ). Is (ExtendedLinearAddress x)) a
 pairs-typed End h = typed-end (pairsOf End) refl refl refl
 
 -- a record's text is parsed to the record
@@ -104,11 +104,11 @@ two-of [] h = absurd (omega arith)
 two-of (x ∷ []) h = absurd (omega arith)
 two-of (x ∷ y ∷ xs) h = refl
 
-record-by : (r : Record) (body : List ℕ) (s : ℕ) → body ≡ bodyOf r → s < 256 → total (body ++ s ∷ []) % 256 ≡ 0 → body ++ s ∷ [] ≡ pairsOf r
-unfolding pairsOf sumOf
+record-by : (r : Record) (body : List ℕ) (s : ℕ) → body ≡ bodyOf r → s < 256 → byteSum (body ++ s ∷ []) % 256 ≡ 0 → body ++ s ∷ [] ≡ pairsOf r
+unfolding pairsOf checksum
 record-by r body s e h t =
-    let sum : s ≡ sumOf body = sum-only (total body) s h (rw total-end at t) in
-    rw sum (ap (λ (l : List ℕ). l ++ sumOf l ∷ []) e)
+    let sum : s ≡ checksum body = sum-only (byteSum body) s h (rw total-end at t) in
+    rw sum (ap (λ (l : List ℕ). l ++ checksum l ∷ []) e)
 
 abbrev Makes : List ℕ → Record → Type 0
 Makes pairs r = (pairs ≡ pairsOf r) × Fit r
@@ -116,7 +116,7 @@ Makes pairs r = (pairs ≡ pairsOf r) × Fit r
 is-same : {r q : Record} → Is r ≡ Is q → r ≡ q
 is-same e = cc
 
-makes : (pairs : List ℕ) (r : Record) → AllBytes pairs → length pairs ≡ countOf pairs + 5 → total pairs % 256 ≡ 0 → typed pairs ≡ Is r → Makes pairs r
+makes : (pairs : List ℕ) (r : Record) → AllBytes pairs → length pairs ≡ countOf pairs + 5 → byteSum pairs % 256 ≡ 0 → typed pairs ≡ Is r → Makes pairs r
 unfolding AllBytes Fit bodyOf
 makes [] r h l t e = absurd (omega arith)
 makes (a ∷ []) r h l t e = absurd (omega arith)
@@ -162,7 +162,7 @@ makes (a ∷ b ∷ c ∷ d ∷ rest) r h l t e = go (typing (a ∷ b ∷ c ∷ d
         let y : getD rest 1 0 < 256 = bytes-at rest 1 (h .1 .1 .1 .1) in
         let u : (getD rest 0 0 * 256 + getD rest 1 0) / 256 ≡ getD rest 0 0 = omega arith in
         let v : (getD rest 0 0 * 256 + getD rest 1 0) % 256 ≡ getD rest 1 0 = omega arith in
-        made (Upper (getD rest 0 0 * 256 + getD rest 1 0)) (rw (z, o, p, q, u, v, two-of rest (omega arith)) refl) (omega arith) (sym f ∙ e)
+        made (ExtendedLinearAddress (getD rest 0 0 * 256 + getD rest 1 0)) (rw (z, o, p, q, u, v, two-of rest (omega arith)) refl) (omega arith) (sym f ∙ e)
     go (as-none f) = let g : Refuses 16 ≡ Is r = sym f ∙ e in let z : _≡_ {A = ℕ} 0 1 = cc in absurd (omega arith)
 
 -- a line that is parsed is the text of its record
@@ -173,7 +173,7 @@ parsed-text line r p = spelled (lineSpells line) refl
     refused : (number : ℕ) → parsed line ≡ Refuses number → (e : Ending) × ((line ≡ lineText (pairsOf r) e) × Fit r)
     refused number q = let z : _≡_ {A = ℕ} 0 1 = cc in absurd (omega arith)
 
-    summed : (pairs : List ℕ) (b : Bool) → lineSpells line ≡ Pairs pairs → length pairs ≡ countOf pairs + 5 → eqb (total pairs % 256) 0 ≡ b → (e : Ending) × ((line ≡ lineText (pairsOf r) e) × Fit r)
+    summed : (pairs : List ℕ) (b : Bool) → lineSpells line ≡ Pairs pairs → length pairs ≡ countOf pairs + 5 → eqb (byteSum pairs % 256) 0 ≡ b → (e : Ending) × ((line ≡ lineText (pairsOf r) e) × Fit r)
     summed pairs true s n t =
         let text : (e : Ending) × ((line ≡ lineText pairs e) × AllBytes pairs) = spelled-line line pairs s in
         let m : Makes pairs r = makes pairs r (text .1 .1) n (eqb-true _ _ t) (sym (parsed-typed line pairs s n (eqb-true _ _ t)) ∙ p) in
@@ -181,7 +181,7 @@ parsed-text line r p = spelled (lineSpells line) refl
     summed pairs false s n t = refused 15 (parsed-sum line pairs s n (eqb-false _ _ t))
 
     counted : (pairs : List ℕ) (b : Bool) → lineSpells line ≡ Pairs pairs → eqb (length pairs) (countOf pairs + 5) ≡ b → (e : Ending) × ((line ≡ lineText (pairsOf r) e) × Fit r)
-    counted pairs true s n = summed pairs (eqb (total pairs % 256) 0) s (eqb-true _ _ n) refl
+    counted pairs true s n = summed pairs (eqb (byteSum pairs % 256) 0) s (eqb-true _ _ n) refl
     counted pairs false s n = refused 14 (parsed-count line pairs s n)
 
     spelled : (s : Spelled) → lineSpells line ≡ s → (e : Ending) × ((line ≡ lineText (pairsOf r) e) × Fit r)
@@ -193,7 +193,7 @@ pub record-room : (address : ℕ) (bytes : List ℕ) (e : Ending) → 2 * length
 unfolding recordText lineText pairsOf bodyOf
 record-room address bytes e =
     let pairs = pairsOf (Data address bytes) in
-    let a : length pairs ≡ length (bodyOf (Data address bytes)) + 1 = length-append (bodyOf (Data address bytes)) (sumOf (bodyOf (Data address bytes)) ∷ []) in
+    let a : length pairs ≡ length (bodyOf (Data address bytes)) + 1 = length-append (bodyOf (Data address bytes)) (checksum (bodyOf (Data address bytes)) ∷ []) in
     let b = hex-long pairs in
     let c = length-append (COLON ∷ hex pairs) (endingText e) in
     omega arith

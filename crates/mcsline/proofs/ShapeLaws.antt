@@ -8,7 +8,7 @@ use borrow.Author.Tests.{eqb-true, eqb-false, eq-eqb, ne-eqb}
 use lib.Dec.{eqb}
 use lib.ListN.{length, getD}
 use Rattle.base.specs.Question.{ask}
-use Rattle.digits.specs.Digit.{total}
+use Rattle.digits.specs.Digit.{byteSum}
 use Rattle.digits.specs.Pairs.{pairAt, ArePairs, pairsAt}
 use Rattle.digits.proofs.Laws.{length-pairs, getD-pairs}
 use Rattle.mcsline.specs.Record.{COLON}
@@ -30,11 +30,11 @@ module _ (line pairs : List ℕ) (e : lineSpells line ≡ Pairs pairs) where
   unfolding parsed bySpelled ask
   parsed-count n = rw e (rw n refl)
 
-  pub parsed-sum : length pairs ≡ countOf pairs + 5 → (total pairs % 256 ≡ 0 → ⊥) → parsed line ≡ Refuses 15
+  pub parsed-sum : length pairs ≡ countOf pairs + 5 → (byteSum pairs % 256 ≡ 0 → ⊥) → parsed line ≡ Refuses 15
   unfolding parsed bySpelled ask
   parsed-sum n s = rw e (rw (eq-eqb _ _ n, ne-eqb _ _ s) refl)
 
-  pub parsed-typed : length pairs ≡ countOf pairs + 5 → total pairs % 256 ≡ 0 → parsed line ≡ typed pairs
+  pub parsed-typed : length pairs ≡ countOf pairs + 5 → byteSum pairs % 256 ≡ 0 → parsed line ≡ typed pairs
   unfolding parsed bySpelled ask
   parsed-typed n s = rw e (rw (eq-eqb _ _ n, eq-eqb _ _ s) refl)
 
@@ -128,9 +128,9 @@ sound-formed text at inside sound = go (form text at inside)
     go (formed f) = f
 
 pub sound-typed : (text : List ℕ) (at count end : ℕ) → Orderly text at count end → Sound (lineAt text at) → parsed (lineAt text at) ≡ typed (linePairs text at count)
-sound-typed text at count end o sound = go (eqb (total (linePairs text at count) % 256) 0) refl
+sound-typed text at count end o sound = go (eqb (byteSum (linePairs text at count) % 256) 0) refl
   where
-    go : (b : Bool) → eqb (total (linePairs text at count) % 256) 0 ≡ b → parsed (lineAt text at) ≡ typed (linePairs text at count)
+    go : (b : Bool) → eqb (byteSum (linePairs text at count) % 256) 0 ≡ b → parsed (lineAt text at) ≡ typed (linePairs text at count)
     go true e = parsed-typed (lineAt text at) (linePairs text at count) (o .spells) (orderly-count text at count end o) (eqb-true _ _ e)
     go false e = absurd (sound 15 (parsed-sum (lineAt text at) (linePairs text at count) (o .spells) (orderly-count text at count end o) (eqb-false _ _ e)))
 
@@ -138,6 +138,6 @@ pub shape-none : (text : List ℕ) (at : ℕ) (s : Shape) → ShapeIs text at s 
 unfolding ShapeIs
 shape-none text at s h e = rw e at h
 
-pub shape-some : (text : List ℕ) (at : ℕ) (s : Shape) (count sum end : ℕ) → ShapeIs text at s → s ≡ Shaped count sum end → Orderly text at count end × (sum ≡ total (linePairs text at count))
+pub shape-some : (text : List ℕ) (at : ℕ) (s : Shape) (count sum end : ℕ) → ShapeIs text at s → s ≡ Shaped count sum end → Orderly text at count end × (sum ≡ byteSum (linePairs text at count))
 unfolding ShapeIs
 shape-some text at s count sum end h e = rw e at h

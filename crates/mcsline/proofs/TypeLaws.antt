@@ -10,11 +10,10 @@ use lib.ListN.{length, take, drop}
 use Rattle.base.specs.Question.{ask}
 use Rattle.digits.specs.Pairs.{pairAt, twoPairsAt, pairsAt}
 use Rattle.digits.proofs.Laws.{length-pairs, getD-pairs, drop-pairs, take-pairs}
-use Rattle.mcsline.specs.Record.{Data, Upper, End}
+use Rattle.mcsline.specs.Record.{Data, ExtendedLinearAddress, End}
 use Rattle.mcsline.specs.Line.{countOf, twoAt, addressOf, typeOf, byType, Parsed, Is, Refuses, typed}
 use Rattle.mcsline.specs.Place.{asLine}
-use Rattle.mcsline.specs.declared.line.Line.{Line}
-use Rattle.mcsline.specs.declared.line.Line.the-variants.{Data as DataLine, Upper as UpperLine, End as EndLine, Refused as LineRefused}
+use Rattle.mcsline.specs.Types.{LineAnswer, DataLine, ExtendedLinearAddressLine, EndLine, LineRefused}
 
 -- What record pairs make, case by case.
 module _ {A : Type 0} (d e u o : A) where
@@ -67,7 +66,7 @@ module _ (pairs : List ℕ) where
   unfolding typed ask
   typed-upper-address t n a = rw t (by-upper _ _ _ _ ∙ rw (eq-eqb _ _ n, ne-eqb _ _ a) refl)
 
-  pub typed-upper : typeOf pairs ≡ 4 → countOf pairs ≡ 2 → addressOf pairs ≡ 0 → typed pairs ≡ Is (Upper (twoAt pairs 4))
+  pub typed-upper : typeOf pairs ≡ 4 → countOf pairs ≡ 2 → addressOf pairs ≡ 0 → typed pairs ≡ Is (ExtendedLinearAddress (twoAt pairs 4))
   unfolding typed ask
   typed-upper t n a = rw t (by-upper _ _ _ _ ∙ rw (eq-eqb _ _ n, eq-eqb _ _ a) refl)
 
@@ -75,7 +74,7 @@ module _ (pairs : List ℕ) where
 pub data Typing (pairs : List ℕ) : Type 0 where
   as-data : typeOf pairs ≡ 0 → (countOf pairs ≡ 0 → ⊥) → typed pairs ≡ Is (Data (addressOf pairs) (take (countOf pairs) (drop 4 pairs))) → Typing pairs
   as-end : typeOf pairs ≡ 1 → countOf pairs ≡ 0 → addressOf pairs ≡ 0 → typed pairs ≡ Is End → Typing pairs
-  as-upper : typeOf pairs ≡ 4 → countOf pairs ≡ 2 → addressOf pairs ≡ 0 → typed pairs ≡ Is (Upper (twoAt pairs 4)) → Typing pairs
+  as-upper : typeOf pairs ≡ 4 → countOf pairs ≡ 2 → addressOf pairs ≡ 0 → typed pairs ≡ Is (ExtendedLinearAddress (twoAt pairs 4)) → Typing pairs
   as-none : typed pairs ≡ Refuses 16 → Typing pairs
 
 pub typing : (pairs : List ℕ) → Typing pairs
@@ -151,15 +150,15 @@ module _ (pairs : List ℕ) (end : ℕ) where
       rw t
       (ap (λ (p : Parsed). asLine p end) (by-end _ _ _ _)
       ∙ asked-line (eqb (countOf pairs) 0) _ end
-      ∙ ap (λ (l : Line). ask (eqb (countOf pairs) 0) (LineRefused 16) l) (asked-line (eqb (addressOf pairs) 0) _ end))
+      ∙ ap (λ (l : LineAnswer). ask (eqb (countOf pairs) 0) (LineRefused 16) l) (asked-line (eqb (addressOf pairs) 0) _ end))
 
-  as-upper-line : typeOf pairs ≡ 4 → asLine (typed pairs) end ≡ ask (eqb (countOf pairs) 2) (LineRefused 16) (ask (eqb (addressOf pairs) 0) (LineRefused 16) (UpperLine (twoAt pairs 4) end))
+  as-extended-address-line : typeOf pairs ≡ 4 → asLine (typed pairs) end ≡ ask (eqb (countOf pairs) 2) (LineRefused 16) (ask (eqb (addressOf pairs) 0) (LineRefused 16) (ExtendedLinearAddressLine (twoAt pairs 4) end))
   unfolding typed asLine
-  as-upper-line t =
+  as-extended-address-line t =
       rw t
       (ap (λ (p : Parsed). asLine p end) (by-upper _ _ _ _)
       ∙ asked-line (eqb (countOf pairs) 2) _ end
-      ∙ ap (λ (l : Line). ask (eqb (countOf pairs) 2) (LineRefused 16) l) (asked-line (eqb (addressOf pairs) 0) _ end))
+      ∙ ap (λ (l : LineAnswer). ask (eqb (countOf pairs) 2) (LineRefused 16) l) (asked-line (eqb (addressOf pairs) 0) _ end))
 
 module _ (text : List ℕ) (at count end kind address : ℕ) (counted : count ≡ pairAt text (at + 1)) (type : kind ≡ pairAt text (at + 7)) (addressed : address ≡ twoPairsAt text (at + 3)) where
   pub data-typed : kind ≡ 0 → asLine (typed (linePairs text at count)) end ≡ ask (leb 1 count) (LineRefused 16) (DataLine address count end)
@@ -172,13 +171,13 @@ module _ (text : List ℕ) (at count end kind address : ℕ) (counted : count �
       as-end-line (linePairs text at count) end (type-is text at count ∙ sym type ∙ k)
       ∙ rw (address-is text at count ∙ sym addressed, count-is text at count ∙ sym counted) refl
 
-  pub upper-typed : kind ≡ 4 → asLine (typed (linePairs text at count)) end ≡ ask (eqb count 2) (LineRefused 16) (ask (eqb address 0) (LineRefused 16) (UpperLine (twoPairsAt text (at + 9)) end))
+  pub extended-typed : kind ≡ 4 → asLine (typed (linePairs text at count)) end ≡ ask (eqb count 2) (LineRefused 16) (ask (eqb address 0) (LineRefused 16) (ExtendedLinearAddressLine (twoPairsAt text (at + 9)) end))
   unfolding ask
-  upper-typed k =
-      as-upper-line (linePairs text at count) end (type-is text at count ∙ sym type ∙ k)
+  extended-typed k =
+      as-extended-address-line (linePairs text at count) end (type-is text at count ∙ sym type ∙ k)
       ∙ rw (address-is text at count ∙ sym addressed, count-is text at count ∙ sym counted) (go (eqb count 2) refl)
     where
-      go : (b : Bool) → eqb count 2 ≡ b → ask b (LineRefused 16) (ask (eqb address 0) (LineRefused 16) (UpperLine (twoAt (linePairs text at count) 4) end)) ≡ ask b (LineRefused 16) (ask (eqb address 0) (LineRefused 16) (UpperLine (twoPairsAt text (at + 9)) end))
+      go : (b : Bool) → eqb count 2 ≡ b → ask b (LineRefused 16) (ask (eqb address 0) (LineRefused 16) (ExtendedLinearAddressLine (twoAt (linePairs text at count) 4) end)) ≡ ask b (LineRefused 16) (ask (eqb address 0) (LineRefused 16) (ExtendedLinearAddressLine (twoPairsAt text (at + 9)) end))
       go true h = rw (half-is text at count (let e : count ≡ 2 = eqb-true _ _ h in omega arith)) refl
       go false h = refl
 

@@ -4,9 +4,10 @@ use mathlib.Core.Bool.{Bool, true, false, _&&_}
 use mathlib.Core.List.{List, [], _∷_}
 use lib.Dec.{eqb, leb}
 use lib.ListN.{length, getD, take, drop}
+use Rattle.base.specs.Refusal.{badLine, badSum, badRecord}
 use Rattle.base.specs.Question.{ask}
-use Rattle.digits.specs.Digit.{total, digitOf, isDigit}
-use Rattle.mcsline.specs.Record.{LF, CR, COLON, Record, Data, Upper, End}
+use Rattle.digits.specs.Digit.{byteSum, digitOf, isDigit}
+use Rattle.mcsline.specs.Record.{LF, CR, COLON, Record, Data, ExtendedLinearAddress, End}
 
 -- Lines.
 
@@ -76,21 +77,21 @@ byType type data′ end upper other =
 unfoldable pub typed : List ℕ → Parsed
 typed pairs =
     byType (typeOf pairs)
-    (ask (leb 1 (countOf pairs)) (Refuses 16) (Is (Data (addressOf pairs) (take (countOf pairs) (drop 4 pairs)))))
-    (ask (eqb (countOf pairs) 0) (Refuses 16) (ask (eqb (addressOf pairs) 0) (Refuses 16) (Is End)))
-    (ask (eqb (countOf pairs) 2) (Refuses 16) (ask (eqb (addressOf pairs) 0) (Refuses 16) (Is (Upper (twoAt pairs 4)))))
-    (Refuses 16)
+    (ask (leb 1 (countOf pairs)) (Refuses badRecord) (Is (Data (addressOf pairs) (take (countOf pairs) (drop 4 pairs)))))
+    (ask (eqb (countOf pairs) 0) (Refuses badRecord) (ask (eqb (addressOf pairs) 0) (Refuses badRecord) (Is End)))
+    (ask (eqb (countOf pairs) 2) (Refuses badRecord) (ask (eqb (addressOf pairs) 0) (Refuses badRecord) (Is (ExtendedLinearAddress (twoAt pairs 4)))))
+    (Refuses badRecord)
 
 -- Question 11 but for the address rule. As many pairs as the count says: four before the data and the sum after them, so at least five.
 unfoldable pub parsed : List ℕ → Parsed
 parsed line =
-    bySpelled (lineSpells line) (Refuses 14) (λ pairs.
-    ask (eqb (length pairs) (countOf pairs + 5)) (Refuses 14)
-    (ask (eqb (total pairs % 256) 0) (Refuses 15)
+    bySpelled (lineSpells line) (Refuses badLine) (λ pairs.
+    ask (eqb (length pairs) (countOf pairs + 5)) (Refuses badLine)
+    (ask (eqb (byteSum pairs % 256) 0) (Refuses badSum)
     (typed pairs)))
 
 unfoldable pub byParsed {ℓ} : {A : Type ℓ} → Parsed → (ℕ → A) → (ℕ → List ℕ → A) → (ℕ → A) → A → A
 byParsed (Refuses number) refused data′ upper end = refused number
 byParsed (Is (Data address bytes)) refused data′ upper end = data′ address bytes
-byParsed (Is (Upper half)) refused data′ upper end = upper half
+byParsed (Is (ExtendedLinearAddress half)) refused data′ upper end = upper half
 byParsed (Is End) refused data′ upper end = end

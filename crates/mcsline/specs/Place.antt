@@ -5,14 +5,14 @@ use mathlib.Core.Bool.{true, false}
 use mathlib.Core.List.{List, [], _∷_}
 use lib.Dec.{eqb}
 use lib.ListN.{length, getD, drop}
-use Rattle.digits.specs.Digit.{total}
+use Rattle.base.specs.Refusal.{badLine}
+use Rattle.digits.specs.Digit.{byteSum}
 use Rattle.digits.specs.Pairs.{pairAt, pairsAt}
-use Rattle.mcsline.specs.Record.{LF, CR, Data, Upper, End}
+use Rattle.mcsline.specs.Record.{LF, CR, Data, ExtendedLinearAddress, End}
 use Rattle.mcsline.specs.Line.{Pairs, lineSpells, Parsed, Is, Refuses, parsed}
 use Rattle.mcsline.specs.declared.line.Shape.{Shape}
 use Rattle.mcsline.specs.declared.line.Shape.the-variants.{Shaped, Broken as NoShape}
-use Rattle.mcsline.specs.declared.line.Line.{Line}
-use Rattle.mcsline.specs.declared.line.Line.the-variants.{Data as DataLine, Upper as UpperLine, End as EndLine, Refused as LineRefused}
+use Rattle.mcsline.specs.Types.{LineAnswer, DataLine, ExtendedLinearAddressLine, EndLine, LineRefused}
 
 -- the length of a line end that begins with two characters, 0 where they are none
 unfoldable pub endingOf : ℕ → ℕ → ℕ
@@ -41,12 +41,12 @@ pub record Orderly (text : List ℕ) (at count end : ℕ) : Type 0 where
   pub long : at + 2 * count + 11 ≤ length text
 
 unfoldable pub ShapeIs : List ℕ → ℕ → Shape → Type 0
-ShapeIs text at (Shaped count sum end) = Orderly text at count end × (sum ≡ total (pairsAt text (at + 1) (count + 5)))
-ShapeIs text at NoShape = parsed (lineAt text at) ≡ Refuses 14
+ShapeIs text at (Shaped count sum end) = Orderly text at count end × (sum ≡ byteSum (pairsAt text (at + 1) (count + 5)))
+ShapeIs text at NoShape = parsed (lineAt text at) ≡ Refuses badLine
 
 -- a parsed line in the code's form, with the place after it
-unfoldable pub asLine : Parsed → ℕ → Line
+unfoldable pub asLine : Parsed → ℕ → LineAnswer
 asLine (Refuses number) end = LineRefused number
 asLine (Is (Data address bytes)) end = DataLine address (length bytes) end
-asLine (Is (Upper half)) end = UpperLine half end
+asLine (Is (ExtendedLinearAddress half)) end = ExtendedLinearAddressLine half end
 asLine (Is End) end = EndLine end

@@ -2,7 +2,7 @@
 use Prim.Native.Nat.{ℕ, _-_, _/_, _%_, _<_, _≤_}
 use mathlib.Core.List.{List, [], _∷_, _++_}
 use lib.ListN.{length}
-use Rattle.digits.specs.Digit.{hex, total}
+use Rattle.digits.specs.Digit.{hex, byteSum}
 
 abbrev pub LF : ℕ
 LF = 0x0A
@@ -29,21 +29,21 @@ lineText pairs ending = COLON ∷ hex pairs ++ endingText ending
 -- Records: type 00 has an address and data, type 04 the upper half of later addresses, type 01 is the end record.
 pub data Record : Type 0 where
   Data : (address : ℕ) → (bytes : List ℕ) → Record
-  Upper : (half : ℕ) → Record
+  ExtendedLinearAddress : (half : ℕ) → Record
   End : Record
 
 -- a record's pairs but for the sum: count, address (2 bytes), type, data
 unfoldable pub bodyOf : Record → List ℕ
 bodyOf (Data address bytes) = length bytes ∷ address / 256 ∷ address % 256 ∷ 0x00 ∷ bytes
-bodyOf (Upper half) = 2 ∷ 0 ∷ 0 ∷ 0x04 ∷ half / 256 ∷ half % 256 ∷ []
+bodyOf (ExtendedLinearAddress half) = 2 ∷ 0 ∷ 0 ∷ 0x04 ∷ half / 256 ∷ half % 256 ∷ []
 bodyOf End = 0 ∷ 0 ∷ 0 ∷ 0x01 ∷ []
 
 -- All its pairs add to 0 modulo 256: the sum is what is missing.
-unfoldable pub sumOf : List ℕ → ℕ
-sumOf body = (256 - total body % 256) % 256
+unfoldable pub checksum : List ℕ → ℕ
+checksum body = (256 - byteSum body % 256) % 256
 
 unfoldable pub pairsOf : Record → List ℕ
-pairsOf r = bodyOf r ++ sumOf (bodyOf r) ∷ []
+pairsOf r = bodyOf r ++ checksum (bodyOf r) ∷ []
 
 -- a record's line
 pub data Line : Type 0 where
@@ -61,5 +61,5 @@ AllBytes (byte ∷ bytes) = (byte < 256) × AllBytes bytes
 -- Data records have 1 to 255 bytes; an address and an upper half have two.
 unfoldable pub Fit : Record → Type 0
 Fit (Data address bytes) = (address < 65536) × (1 ≤ length bytes) × (length bytes ≤ 255) × AllBytes bytes
-Fit (Upper half) = half < 65536
+Fit (ExtendedLinearAddress half) = half < 65536
 Fit End = Unit {0}

@@ -4,10 +4,13 @@ ghost use Prim.Native.Nat.{_+_, _*_, _<_, _≤_};
 ghost use lib.Dec.{eqb, leb};
 ghost use lib.ListN.{length};
 ghost use Rattle.base.specs.Question.{ask};
-ghost use Rattle.digits.specs.Pairs.{DigitTable, pairAt, twoPairsAt, pairsAt};
+ghost use Rattle.base.specs.Refusal.{badRecord};
+ghost use Rattle.digits.specs.Table.{DigitTable};
+ghost use Rattle.digits.specs.Pairs.{pairAt, twoPairsAt, pairsAt};
 ghost use Rattle.mcsline.specs.Line.{typed, parsed};
 ghost use Rattle.mcsline.specs.Place.{endingAt, lineAt, ShapeIs, asLine, Sound};
-ghost use Rattle.mcsline.specs.declared.line.Line.the-variants.{Data, Upper, End, Refused};
+ghost use Rattle.mcsline.specs.Types.{DataLine, ExtendedLinearAddressLine, EndLine, LineRefused};
+use base::refusal;
 use digits::digit::pair;
 use digits::digit::two_pairs;
 use digits::pairs::Sum;
@@ -26,13 +29,13 @@ pub(crate) enum Shape {
 }
 
 // A line's record and the place after it, or the number of its refusal.
-pub enum Line {
+pub enum LineAnswer {
     Data {
         address: u32,
         count: usize,
         end: usize,
     },
-    Upper {
+    ExtendedLinearAddress {
         half: u32,
         end: usize,
     },
@@ -93,13 +96,15 @@ fn shape_of(values: &[u8], text: &[u8], at: usize) -> Shape
 }
 
 // A data record, of one byte or more.
-fn data_line(address: u32, count: usize, end: usize) -> Line
-    ensures { λ r. ⌜ r ≡ ask (leb 1 count) (Refused 16) (Data address count end) ⌝ }
+fn data_line(address: u32, count: usize, end: usize) -> LineAnswer
+    ensures { λ r. ⌜ r ≡ ask (leb 1 count) (LineRefused badRecord) (DataLine address count end) ⌝ }
 {
     if count == 0 {
-        return Line::Refused { number: 16 };
+        return LineAnswer::Refused {
+            number: refusal::BAD_RECORD,
+        };
     }
-    Line::Data {
+    LineAnswer::Data {
         address,
         count,
         end,
@@ -107,35 +112,50 @@ fn data_line(address: u32, count: usize, end: usize) -> Line
 }
 
 // The end record: no bytes, and the address 0000.
-fn end_line(address: u32, count: usize, end: usize) -> Line
-    ensures { λ r. ⌜ r ≡ ask (eqb count 0) (Refused 16) (ask (eqb address 0) (Refused 16) (End end)) ⌝ }
+fn end_line(address: u32, count: usize, end: usize) -> LineAnswer
+    ensures { λ r. ⌜ r ≡ ask (eqb count 0) (LineRefused badRecord) (ask (eqb address 0) (LineRefused badRecord) (EndLine end)) ⌝ }
 {
     if count != 0 {
-        return Line::Refused { number: 16 };
+        return LineAnswer::Refused {
+            number: refusal::BAD_RECORD,
+        };
     }
     if address != 0 {
-        return Line::Refused { number: 16 };
+        return LineAnswer::Refused {
+            number: refusal::BAD_RECORD,
+        };
     }
-    Line::End { end }
+    LineAnswer::End { end }
 }
 
 // An extended linear address record: the two bytes of an upper half, and the address 0000.
-fn upper_line(values: &[u8], text: &[u8], at: usize, address: u32, count: usize, end: usize) -> Line
+fn extended_address_line(
+    values: &[u8],
+    text: &[u8],
+    at: usize,
+    address: u32,
+    count: usize,
+    end: usize,
+) -> LineAnswer
     requires { ⌜ (at + 2 * count + 11 ≤ length (now text)) × DigitTable (now values) ⌝ }
-    ensures { λ r. ⌜ r ≡ ask (eqb count 2) (Refused 16) (ask (eqb address 0) (Refused 16) (Upper (twoPairsAt (now (text .entry)) (at + 9)) end)) ⌝ }
+    ensures { λ r. ⌜ r ≡ ask (eqb count 2) (LineRefused badRecord) (ask (eqb address 0) (LineRefused badRecord) (ExtendedLinearAddressLine (twoPairsAt (now (text .entry)) (at + 9)) end)) ⌝ }
 {
     if count != 2 {
-        return Line::Refused { number: 16 };
+        return LineAnswer::Refused {
+            number: refusal::BAD_RECORD,
+        };
     }
     if address != 0 {
-        return Line::Refused { number: 16 };
+        return LineAnswer::Refused {
+            number: refusal::BAD_RECORD,
+        };
     }
     let half = two_pairs(values, text, at + 9);
-    Line::Upper { half, end }
+    LineAnswer::ExtendedLinearAddress { half, end }
 }
 
 // The record of a line whose characters are in order.
-fn typed_line(values: &[u8], text: &[u8], at: usize, count: usize, end: usize) -> Line
+fn typed_line(values: &[u8], text: &[u8], at: usize, count: usize, end: usize) -> LineAnswer
     requires { ⌜ (at + 2 * count + 11 ≤ length (now text)) × (count ≡ pairAt (now text) (at + 1)) × DigitTable (now values) ⌝ }
     ensures { λ r. ⌜ r ≡ asLine (typed (pairsAt (now (text .entry)) (at + 1) (count + 5))) end ⌝ }
 {
@@ -148,28 +168,34 @@ fn typed_line(values: &[u8], text: &[u8], at: usize, count: usize, end: usize) -
         return end_line(address, count, end);
     }
     if kind == 0x04 {
-        return upper_line(values, text, at, address, count, end);
+        return extended_address_line(values, text, at, address, count, end);
     }
-    Line::Refused { number: 16 }
+    LineAnswer::Refused {
+        number: refusal::BAD_RECORD,
+    }
 }
 
 // The line at `at`: questions 14, 15 and 16.
-pub fn parse(values: &[u8], text: &[u8], at: usize) -> Line
+pub fn parse(values: &[u8], text: &[u8], at: usize) -> LineAnswer
     requires { ⌜ (at < length (now text)) × DigitTable (now values) ⌝ }
     ensures { λ r. ⌜ r ≡ asLine (parsed (lineAt (now (text .entry)) at)) (at + length (lineAt (now (text .entry)) at)) ⌝ }
 {
     let shaped = shape_of(values, text, at);
     let Shape::Shaped { count, sum, end } = shaped else {
-        return Line::Refused { number: 14 };
+        return LineAnswer::Refused {
+            number: refusal::BAD_LINE,
+        };
     };
     if sum % 256 != 0 {
-        return Line::Refused { number: 15 };
+        return LineAnswer::Refused {
+            number: refusal::BAD_SUM,
+        };
     }
     typed_line(values, text, at, count, end)
 }
 
 // The same of a line that is known to pass them: nothing is tested again.
-pub fn parse_sound(values: &[u8], text: &[u8], at: usize) -> Line
+pub fn parse_sound(values: &[u8], text: &[u8], at: usize) -> LineAnswer
     requires { ⌜ (at < length (now text)) × Sound (lineAt (now text) at) × DigitTable (now values) ⌝ }
     ensures { λ r. ⌜ r ≡ asLine (parsed (lineAt (now (text .entry)) at)) (at + length (lineAt (now (text .entry)) at)) ⌝ }
 {

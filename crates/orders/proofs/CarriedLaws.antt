@@ -6,16 +6,15 @@ use mathlib.Core.List.{List, []}
 use native.Mathlib.Omega.{arith}
 use lib.ListN.{length}
 use Rattle.base.proofs.Laws.{below-or-not}
-use Rattle.chip.specs.Layout.{page}
-use Rattle.chip.specs.Kind.{spi}
-use Rattle.chip.specs.declared.kind.Layout.{Layout}
+use Rattle.kind.specs.Layout.{page}
+use Rattle.kind.specs.Spi.{spi}
+use Rattle.orders.specs.Types.{Layout, Look}
 use Rattle.flash.proofs.Laws.{erased-length}
-use Rattle.comparison.specs.Comparison.{filled}
-use Rattle.comparison.proofs.Laws.{filled-length}
+use Rattle.comparison.specs.Comparison.{padded}
+use Rattle.comparison.proofs.Laws.{padded-length}
 use Rattle.orders.specs.Table.{byPhase}
-use Rattle.orders.specs.Orders.{pageOf, orderOf, operationOf, programmed, lookedFor}
-use Rattle.orders.specs.Carried.{carried}
-use Rattle.orders.specs.declared.Operation.the-variants.{Look}
+use Rattle.orders.specs.Orders.{pageOf, orderOf, operationOf, programmed}
+use Rattle.orders.specs.Carried.{expectedBytes, carried}
 use Rattle.orders.proofs.OrderLaws.{page-length}
 
 -- Phases 3 and 4 carry a page of the image, 5 and 6 the ON word, and no other phase anything.
@@ -79,28 +78,28 @@ carried-length image (suc (suc (suc (suc (suc (suc (suc phase))))))) i = omega a
 
 -- What is known of a look of n bytes at a place: it looks for what it carries and then FF, in a page or less.
 pub record Looks (layout : Layout) (image : List ℕ) (phase i place n : ℕ) : Type 0 where
-  pub finds : lookedFor (orderOf spi layout image phase i) ≡ filled n (carried spi image phase i)
+  pub finds : expectedBytes (orderOf spi layout image phase i) ≡ padded n (carried spi image phase i)
   pub room : length (carried spi image phase i) ≤ n
   pub most : n ≤ page
   pub low : place ≤ 16777216
 
-pub looks : (layout : Layout) (image : List ℕ) (phase i place n : ℕ) → layout .update + page * i < 16777216 → operationOf (orderOf spi layout image phase i) ≡ Look place n → Looks layout image phase i place n
-unfolding orderOf byPhase operationOf lookedFor carried
+pub looks : (layout : Layout) (image : List ℕ) (phase i place n : ℕ) → layout .«update_place» + page * i < 16777216 → operationOf (orderOf spi layout image phase i) ≡ Look place n → Looks layout image phase i place n
+unfolding orderOf byPhase operationOf expectedBytes carried
 looks layout image zero i place n h e = absurd (let z : _≡_ {A = ℕ} 0 1 = cc in omega arith)
 looks layout image (suc zero) i place n h e =
     let p : page * i ≡ place = cc in
     let m : page ≡ n = sym (erased-length page) ∙ cc in
-    record { finds = ap (λ (k : ℕ). filled k []) m; room = omega arith; most = omega arith; low = omega arith }
+    record { finds = ap (λ (k : ℕ). padded k []) m; room = omega arith; most = omega arith; low = omega arith }
 looks layout image (suc (suc zero)) i place n h e = absurd (let z : _≡_ {A = ℕ} 0 1 = cc in omega arith)
 looks layout image (suc (suc (suc zero))) i place n h e = absurd (let z : _≡_ {A = ℕ} 0 1 = cc in omega arith)
 looks layout image (suc (suc (suc (suc zero)))) i place n h e =
     let l = page-length image i in
-    let p : layout .update + page * i ≡ place = cc in
-    let m : page ≡ n = sym (filled-length page (pageOf image i) (omega arith)) ∙ cc in
-    record { finds = ap (λ (k : ℕ). filled k (pageOf image i)) m; room = omega arith; most = omega arith; low = omega arith }
+    let p : layout .«update_place» + page * i ≡ place = cc in
+    let m : page ≡ n = sym (padded-length page (pageOf image i) (omega arith)) ∙ cc in
+    record { finds = ap (λ (k : ℕ). padded k (pageOf image i)) m; room = omega arith; most = omega arith; low = omega arith }
 looks layout image (suc (suc (suc (suc (suc zero))))) i place n h e = absurd (let z : _≡_ {A = ℕ} 0 1 = cc in omega arith)
 looks layout image (suc (suc (suc (suc (suc (suc zero)))))) i place n h e =
     let p : 4092 ≡ place = cc in
     let m : 4 ≡ n = cc in
-    record { finds = ap (λ (k : ℕ). filled k (spi .on)) m; room = omega arith; most = omega arith; low = omega arith }
+    record { finds = ap (λ (k : ℕ). padded k (spi .on)) m; room = omega arith; most = omega arith; low = omega arith }
 looks layout image (suc (suc (suc (suc (suc (suc (suc phase))))))) i place n h e = absurd (let z : _≡_ {A = ℕ} 0 1 = cc in omega arith)

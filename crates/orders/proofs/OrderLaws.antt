@@ -8,10 +8,10 @@ use borrow.Author.Tests.{leb-true, leb-false}
 use lib.Dec.{leb}
 use lib.ListN.{length, getD, take, drop, length-append, length-take, length-drop, List·getD-append, drop-of-length-le}
 use lib.Seq.{getD-append-add, getD-take, getD-drop, take-all}
-use Rattle.chip.specs.Layout.{page}
-use Rattle.chip.specs.Kind.{Kind}
-use Rattle.chip.specs.declared.kind.Layout.{Layout}
-use Rattle.orders.specs.Table.{count, before, total}
+use Rattle.kind.specs.Layout.{page}
+use Rattle.kind.specs.Kind.{Kind}
+use Rattle.orders.specs.Types.{Layout}
+use Rattle.orders.specs.Table.{count, countBefore, total}
 use Rattle.orders.specs.Orders.{Order, pageOf, orderOf, inPhase, ordersBefore, orders}
 use Rattle.orders.proofs.TableLaws.{before-later}
 
@@ -31,8 +31,8 @@ module _ (kind : Kind) (layout : Layout) (image : List ℕ) where
   abbrev ofPhase : ℕ → List Order
   ofPhase phase = inPhase (orderOf kind layout image phase) 0 (count layout (length image) phase)
 
-  before-length : (phase : ℕ) → length (ordersBefore kind layout image phase) ≡ before layout (length image) phase
-  unfolding ordersBefore before
+  before-length : (phase : ℕ) → length (ordersBefore kind layout image phase) ≡ countBefore layout (length image) phase
+  unfolding ordersBefore countBefore
   before-length zero = refl
   before-length (suc phase) =
       let a = length-append (ordersBefore kind layout image phase) (ofPhase phase) in
@@ -46,12 +46,12 @@ module _ (kind : Kind) (layout : Layout) (image : List ℕ) where
 
   -- Order i of a phase stands in the list of all phases before any later one.
   pub order-at : (phase k i : ℕ) (d : Order) → i < count layout (length image) phase →
-      getD (ordersBefore kind layout image (suc phase + k)) (before layout (length image) phase + i) d ≡ orderOf kind layout image phase i
+      getD (ordersBefore kind layout image (suc phase + k)) (countBefore layout (length image) phase + i) d ≡ orderOf kind layout image phase i
   unfolding ordersBefore
   order-at phase zero i d h =
       let e : suc phase + 0 ≡ suc phase = omega arith in
-      let l : before layout (length image) phase + i ≡ length (ordersBefore kind layout image phase) + i = ap (λ (n : ℕ). n + i) (sym (before-length phase)) in
-      ap (λ (p : ℕ). getD (ordersBefore kind layout image p) (before layout (length image) phase + i) d) e
+      let l : countBefore layout (length image) phase + i ≡ length (ordersBefore kind layout image phase) + i = ap (λ (n : ℕ). n + i) (sym (before-length phase)) in
+      ap (λ (p : ℕ). getD (ordersBefore kind layout image p) (countBefore layout (length image) phase + i) d) e
       ∙ ap (λ (n : ℕ). getD (ordersBefore kind layout image phase ++ ofPhase phase) n d) l
       ∙ getD-append-add (ordersBefore kind layout image phase) (ofPhase phase) i d
       ∙ phase-at (orderOf kind layout image phase) 0 (count layout (length image) phase) i d h
@@ -60,8 +60,8 @@ module _ (kind : Kind) (layout : Layout) (image : List ℕ) where
       let e : suc phase + suc k ≡ suc (suc phase + k) = omega arith in
       let l = before-later layout (length image) phase k in
       let b = before-length (suc phase + k) in
-      ap (λ (p : ℕ). getD (ordersBefore kind layout image p) (before layout (length image) phase + i) d) e
-      ∙ List·getD-append (ordersBefore kind layout image (suc phase + k)) (ofPhase (suc phase + k)) d (before layout (length image) phase + i) (omega arith)
+      ap (λ (p : ℕ). getD (ordersBefore kind layout image p) (countBefore layout (length image) phase + i) d) e
+      ∙ List·getD-append (ordersBefore kind layout image (suc phase + k)) (ofPhase (suc phase + k)) d (countBefore layout (length image) phase + i) (omega arith)
       ∙ order-at phase k i d h
 
 -- Byte k of an image's page.

@@ -1,10 +1,10 @@
 -- The table of orders: a fact of each phase, how many orders it has, and where they lie.
-use Prim.Native.Nat.{ℕ, zero, suc, _+_, _*_, _/_, _%_, _<_, _≤_}
+use Prim.Native.Nat.{ℕ, zero, suc, _+_, _-_, _*_, _/_, _%_, _<_, _≤_}
 use mathlib.Core.Path.{_≡_, refl, ap}
 use native.Mathlib.Omega.{arith}
-use Rattle.chip.specs.Layout.{page, segment}
-use Rattle.chip.specs.declared.kind.Layout.{Layout}
-use Rattle.orders.specs.Table.{byPhase, pages, count, before, total}
+use Rattle.kind.specs.Layout.{page, segment}
+use Rattle.orders.specs.Types.{Layout}
+use Rattle.orders.specs.Table.{byPhase, pages, count, countBefore, total}
 
 -- A fact of phases 0 to 6, one by one.
 pub phases {ℓ} : (P : ℕ → Type ℓ) → P 0 → P 1 → P 2 → P 3 → P 4 → P 5 → P 6 → (phase : ℕ) → phase < 7 → P phase
@@ -46,37 +46,46 @@ last-phase layout n (suc (suc (suc (suc (suc (suc zero)))))) i h a b c d e f = r
 last-phase layout n (suc (suc (suc (suc (suc (suc (suc phase))))))) i h a b c d e f = absurd (omega arith)
 
 -- The orders' places: pages and segments of the update area, pages of the image.
-pub area-segments : (layout : Layout) (n i : ℕ) → i < count layout n 2 → segment * i + segment ≤ layout .area
+pub area-segments : (layout : Layout) (n i : ℕ) → i < count layout n 2 → segment * i + segment ≤ layout .«update_length»
 unfolding count byPhase
-area-segments layout n i h = let b : i < layout .area / segment = h in omega arith
+area-segments layout n i h = let b : i < layout .«update_length» / segment = h in omega arith
 
 pub image-pages : (layout : Layout) (n i : ℕ) → i < count layout n 3 → page * i < n
 unfolding count byPhase
 image-pages layout n i h = let b : i < pages n = h in omega arith
 
-pub area-pages : (layout : Layout) (n i : ℕ) → i < count layout n 4 → page * i + page ≤ layout .area
+pub area-pages : (layout : Layout) (n i : ℕ) → i < count layout n 4 → page * i + page ≤ layout .«update_length»
 unfolding count byPhase
-area-pages layout n i h = let b : i < layout .area / page = h in omega arith
+area-pages layout n i h = let b : i < layout .«update_length» / page = h in omega arith
 
 -- How many orders come before a phase that is not the first.
-pub before-next : (layout : Layout) (n phase : ℕ) → before layout n (phase + 1) ≡ before layout n phase + count layout n phase
-unfolding before
-before-next layout n phase = let e : phase + 1 ≡ suc phase = omega arith in ap (before layout n) e
+pub before-next : (layout : Layout) (n phase : ℕ) → countBefore layout n (phase + 1) ≡ countBefore layout n phase + count layout n phase
+unfolding countBefore
+before-next layout n phase = let e : phase + 1 ≡ suc phase = omega arith in ap (countBefore layout n) e
 
 -- In all A/4,096 + A/256 + n/256 rounded up + 19.
-pub total-is : (layout : Layout) (n : ℕ) → total layout n ≡ layout .area / 4096 + layout .area / 256 + (n + 255) / 256 + 19
-unfolding before count byPhase
+pub total-is : (layout : Layout) (n : ℕ) → total layout n ≡ layout .«update_length» / 4096 + layout .«update_length» / 256 + (n + 255) / 256 + 19
+unfolding countBefore count byPhase
 total-is layout n = omega arith
 
 -- Orders of a phase come before those of a later one.
-pub before-later : (layout : Layout) (n phase k : ℕ) → before layout n phase + count layout n phase ≤ before layout n (suc phase + k)
-unfolding before
+pub before-later : (layout : Layout) (n phase k : ℕ) → countBefore layout n phase + count layout n phase ≤ countBefore layout n (suc phase + k)
+unfolding countBefore
 before-later layout n phase zero =
     let e : suc phase + 0 ≡ suc phase = omega arith in
-    let b : before layout n (suc phase + 0) ≡ before layout n phase + count layout n phase = ap (before layout n) e in
+    let b : countBefore layout n (suc phase + 0) ≡ countBefore layout n phase + count layout n phase = ap (countBefore layout n) e in
     omega arith
 before-later layout n phase (suc k) =
     let e : suc phase + suc k ≡ suc (suc phase + k) = omega arith in
-    let b : before layout n (suc phase + suc k) ≡ before layout n (suc phase + k) + count layout n (suc phase + k) = ap (before layout n) e in
+    let b : countBefore layout n (suc phase + suc k) ≡ countBefore layout n (suc phase + k) + count layout n (suc phase + k) = ap (countBefore layout n) e in
     let h = before-later layout n phase k in
     omega arith
+
+-- Those before a phase are at most all.
+pub before-total : (layout : Layout) (n phase : ℕ) → phase ≤ 7 → countBefore layout n phase ≤ total layout n
+unfolding countBefore
+before-total layout n zero h = omega arith
+before-total layout n (suc phase) h =
+    let e : suc phase + (6 - phase) ≡ 7 = omega arith in
+    let b : countBefore layout n phase + count layout n phase ≤ countBefore layout n (suc phase + (6 - phase)) = before-later layout n phase (6 - phase) in
+    rw e at b

@@ -1,4 +1,5 @@
 -- What the contracts of this crate say, in the order to read it: how many orders a phase has, what they are, and the reply that each asks for.
+pub mod Types
 pub mod Table
 pub mod Orders
 pub mod Replies

@@ -2,16 +2,14 @@
 use Prim.Native.Nat.{ℕ, zero, suc, _+_, _*_}
 use mathlib.Core.List.{List, [], _∷_, _++_}
 use lib.ListN.{length}
-use Rattle.chip.specs.Layout.{page, segment, switchAt}
+use Rattle.kind.specs.Layout.{page, segment, switchAt}
 use Rattle.flash.specs.Flash.{erased, span}
-use Rattle.chip.specs.Kind.{Kind}
-use Rattle.chip.specs.declared.kind.Layout.{Layout}
-use Rattle.comparison.specs.Comparison.{filled}
+use Rattle.kind.specs.Kind.{Kind}
+use Rattle.orders.specs.Types.{Layout, Operation, Erase, Program, Look}
+use Rattle.comparison.specs.Comparison.{padded}
 use Rattle.orders.specs.Table.{byPhase, count}
-use Rattle.orders.specs.declared.Operation.{Operation}
-use Rattle.orders.specs.declared.Operation.the-variants.{Erase, Program, Look}
 
--- An order: an erase of so many bytes, a program of bytes, or a look, with the bytes that must stand there.
+-- An order (document 01's term): an erase of so many bytes, a program of bytes, or a look, with the bytes expected there.
 pub data Order : Type 0 where
   erase : (place count : ℕ) → Order
   program : (place : ℕ) (bytes : List ℕ) → Order
@@ -35,9 +33,9 @@ orderOf kind layout image phase i =
     byPhase phase
     (erase 0 segment)
     (look (page * i) (erased page))
-    (erase (layout .update + segment * i) segment)
-    (program (layout .update + page * i) (pageOf image i))
-    (look (layout .update + page * i) (filled page (pageOf image i)))
+    (erase (layout .«update_place» + segment * i) segment)
+    (program (layout .«update_place» + page * i) (pageOf image i))
+    (look (layout .«update_place» + page * i) (padded page (pageOf image i)))
     (program switchAt (kind .on))
     (look switchAt (kind .on))
     (erase 0 0)
@@ -68,12 +66,6 @@ programmed (erase place count) = []
 programmed (program place bytes) = bytes
 programmed (look place bytes) = []
 
--- the bytes that a look must find
-unfoldable pub lookedFor : Order → List ℕ
-lookedFor (erase place count) = []
-lookedFor (program place bytes) = []
-lookedFor (look place bytes) = bytes
-
 -- the bytes beside an order: those that it programs, FF after them up to a page
 abbrev pub orderBytes : Order → List ℕ
-orderBytes order = filled page (programmed order)
+orderBytes order = padded page (programmed order)

@@ -3,7 +3,7 @@ use Prim.Native.Nat.{ℕ}
 use mathlib.Core.Bool.{Bool, _&&_}
 use lib.Dec.{eqb}
 
--- A reply is "done" for an erase or program, and the bytes read for a look: a number and bytes. "Done" has no bytes.
+-- A reply (document 01's term) is "done" for an erase or program, and the bytes read for a look: a number and bytes. "Done" has no bytes.
 abbrev pub done : ℕ
 done = 0
 
@@ -12,4 +12,4 @@ read = 1
 
 -- Question 8: is the reply the kind and length asked for?
 abbrev pub asksFor : ℕ → ℕ → ℕ → ℕ → Bool
-asksFor what bytes said lent = eqb said what && eqb lent bytes
+asksFor what bytes replyKind lent = eqb replyKind what && eqb lent bytes

@@ -1,7 +1,7 @@
 -- How many orders the phases of a run have. Document 01, "Orders of one run".
 use Prim.Native.Nat.{ℕ, zero, suc, _+_, _/_}
-use Rattle.chip.specs.Layout.{page, segment}
-use Rattle.chip.specs.declared.kind.Layout.{Layout}
+use Rattle.kind.specs.Layout.{page, segment}
+use Rattle.orders.specs.Types.{Layout}
 
 -- One of eight by the phase: what the table of orders says of phases 0 to 6, and of a run that has ended.
 unfoldable pub byPhase {ℓ} : {A : Type ℓ} → ℕ → A → A → A → A → A → A → A → A → A
@@ -20,13 +20,13 @@ pages n = (n + 255) / page
 
 -- How many orders a phase has, for an image of n bytes: 1 erase; 16 looks; A/4,096 erases; n/256 rounded up, programs; A/256 looks; 1 program; 1 look; none.
 unfoldable pub count : Layout → ℕ → ℕ → ℕ
-count layout n phase = byPhase phase 1 (segment / page) (layout .area / segment) (pages n) (layout .area / page) 1 1 0
+count layout n phase = byPhase phase 1 (segment / page) (layout .«update_length» / segment) (pages n) (layout .«update_length» / page) 1 1 0
 
 -- How many orders come before a phase.
-unfoldable pub before : Layout → ℕ → ℕ → ℕ
-before layout n zero = 0
-before layout n (suc phase) = before layout n phase + count layout n phase
+unfoldable pub countBefore : Layout → ℕ → ℕ → ℕ
+countBefore layout n zero = 0
+countBefore layout n (suc phase) = countBefore layout n phase + count layout n phase
 
 -- How many there are in all.
 abbrev pub total : Layout → ℕ → ℕ
-total layout n = before layout n 7
+total layout n = countBefore layout n 7

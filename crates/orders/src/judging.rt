@@ -2,9 +2,10 @@
 ghost use Prim.Native.Nat.{_+_, _*_, _<_, _≤_};
 ghost use mathlib.Core.Path.{_≡_};
 ghost use lib.ListN.{length};
-ghost use Rattle.chip.specs.Layout.{page};
-ghost use Rattle.chip.specs.Kind.{spi};
-ghost use Rattle.comparison.specs.Comparison.{filled, differs, comparison};
+ghost use Rattle.kind.specs.Layout.{page};
+ghost use Rattle.kind.specs.Spi.{spi};
+ghost use Rattle.comparison.specs.Comparison.{padded, differs};
+ghost use Rattle.comparison.specs.Internal.{comparison};
 ghost use Rattle.orders.specs.Table.{count};
 ghost use Rattle.orders.specs.Orders.{orderOf};
 ghost use Rattle.orders.specs.Carried.{carried};
@@ -13,10 +14,10 @@ ghost use Rattle.orders.specs.Judging.{judgedDone, judgedLook, judged};
 use crate::Operation;
 use crate::carried_bytes;
 use crate::operation_at;
-use chip::kind::Layout;
-use chip::kind::Spi;
 use comparison::Comparison;
 use comparison::compare;
+use kind::layout::Layout;
+use kind::spi::Spi;
 
 // What a reply says: an erase or program is done, or the bytes that a look read.
 pub const DONE: u32 = 0;
@@ -32,20 +33,20 @@ pub enum Judgement {
 }
 
 // Question 8: does a reply say what is asked for, with as many bytes?
-fn is_as_asked(what: u32, count: usize, said: u32, lent: usize) -> bool
-    ensures { λ r. ⌜ r ≡ asksFor what count said lent ⌝ }
+fn is_as_asked(what: u32, count: usize, reply_kind: u32, lent: usize) -> bool
+    ensures { λ r. ⌜ r ≡ asksFor what count «reply_kind» lent ⌝ }
 {
-    if said != what {
+    if reply_kind != what {
         return false;
     }
     lent == count
 }
 
 // Question 8, for the reply to an erase or program.
-fn judge_done(said: u32, lent: usize) -> Judgement
-    ensures { λ r. ⌜ r ≡ judgedDone said lent ⌝ }
+fn judge_done(reply_kind: u32, lent: usize) -> Judgement
+    ensures { λ r. ⌜ r ≡ judgedDone «reply_kind» lent ⌝ }
 {
-    if is_as_asked(DONE, 0, said, lent) {
+    if is_as_asked(DONE, 0, reply_kind, lent) {
         return Judgement::Agrees;
     }
     Judgement::NotAsked
@@ -61,10 +62,10 @@ fn judge_look(comparison: Comparison) -> Judgement
     }
 }
 
-// Compares what a look at a place read with what must stand there.
+// Compares what a look at a place read with what is expected there.
 fn compare_look(image: &[u8], phase: u32, index: usize, place: usize, bytes: &[u8]) -> Comparison
     requires { ⌜ (page * index < 16777216) × (place ≤ 16777216) × (length (carried spi (now image) phase index) ≤ length (now bytes)) × (length (now bytes) ≤ page) ⌝ }
-    ensures { λ r. ⌜ r ≡ comparison (differs place (now (bytes .entry)) (filled (length (now (bytes .entry))) (carried spi (now (image .entry)) phase index))) ⌝ }
+    ensures { λ r. ⌜ r ≡ comparison (differs place (now (bytes .entry)) (padded (length (now (bytes .entry))) (carried spi (now (image .entry)) phase index))) ⌝ }
 {
     let on = Spi::ON;
     compare(place, bytes, carried_bytes(image, phase, index, &on))
@@ -76,24 +77,24 @@ pub fn judge(
     image: &[u8],
     phase: u32,
     index: usize,
-    said: u32,
+    reply_kind: u32,
     bytes: &[u8],
 ) -> Judgement
-    requires { ⌜ (index < count layout (length (now image)) phase) × (layout .update + page * index < 16777216) ⌝ }
-    ensures { λ r. ⌜ r ≡ judged (orderOf spi layout (now (image .entry)) phase index) said (now (bytes .entry)) ⌝ }
+    requires { ⌜ (index < count layout (length (now image)) phase) × (layout .«update_place» + page * index < 16777216) ⌝ }
+    ensures { λ r. ⌜ r ≡ judged (orderOf spi layout (now (image .entry)) phase index) «reply_kind» (now (bytes .entry)) ⌝ }
 {
     let operation = operation_at(layout, image.len(), phase, index);
     match operation {
         Operation::Erase {
             place: _,
             length: _,
-        } => judge_done(said, bytes.len()),
+        } => judge_done(reply_kind, bytes.len()),
         Operation::Program {
             place: _,
             length: _,
-        } => judge_done(said, bytes.len()),
+        } => judge_done(reply_kind, bytes.len()),
         Operation::Look { place, length } => {
-            if !is_as_asked(READ, length, said, bytes.len()) {
+            if !is_as_asked(READ, length, reply_kind, bytes.len()) {
                 return Judgement::NotAsked;
             }
             judge_look(compare_look(image, phase, index, place, bytes))

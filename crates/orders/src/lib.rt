@@ -2,19 +2,19 @@
 // is judged (`judging`). An order is an operation on the chip that the run asks for: an erase, a program or a
 // look. For the crates above it alone: its functions ask their caller for an index that the phase has.
 ghost use mathlib.Core.Path.{_≡_};
-ghost use Prim.Native.Nat.{ℕ, _+_, _*_, _<_};
+ghost use Prim.Native.Nat.{ℕ, _+_, _*_, _<_, _≤_};
 ghost use mathlib.Core.List.{List};
 ghost use lib.ListN.{length};
-ghost use Rattle.chip.specs.Layout.{page};
-ghost use Rattle.chip.specs.Kind.{spi, spiOn};
-ghost use Rattle.chip.specs.declared.kind.Layout.{Layout};
-ghost use Rattle.orders.specs.Table.{count};
+ghost use Rattle.kind.specs.Layout.{page};
+ghost use Rattle.kind.specs.Spi.{spi, spiOn};
+ghost use Rattle.orders.specs.Types.{Layout};
+ghost use Rattle.orders.specs.Table.{count, countBefore};
 ghost use Rattle.orders.specs.Orders.{pageOf, orderOf, operationOf, orderBytes};
 ghost use Rattle.orders.specs.Carried.{carried};
-use base::smaller;
-use chip::kind::Layout;
-use chip::kind::Spi;
-use comparison::filled_page;
+use base::min;
+use comparison::padded_page;
+use kind::layout::Layout;
+use kind::spi::Spi;
 
 pub mod judging;
 
@@ -33,21 +33,35 @@ pub fn orders_in(layout: Layout, length: usize, phase: u32) -> usize
     match phase {
         0 => 1,
         1 => Spi::SEGMENT / Spi::PAGE,
-        2 => layout.area / Spi::SEGMENT,
+        2 => layout.update_length / Spi::SEGMENT,
         3 => length / Spi::PAGE + (length % Spi::PAGE + 255) / Spi::PAGE,
-        4 => layout.area / Spi::PAGE,
+        4 => layout.update_length / Spi::PAGE,
         5 => 1,
         6 => 1,
         _ => 0,
     }
 }
 
+// How many orders come before a phase; before phase 7, all of a run's.
+pub fn orders_before(layout: Layout, length: usize, phase: u32) -> usize
+    requires { ⌜ (phase ≤ 7) × (layout .«update_length» ≤ 16777216) × (length ≤ 16777216) ⌝ }
+    ensures { λ r. ⌜ r ≡ countBefore layout length phase ⌝ }
+{
+    let mut orders = 0;
+    let mut i = 0;
+    while i < phase {
+        orders += orders_in(layout, length, i);
+        i += 1;
+    }
+    orders
+}
+
 // An order of a phase, as far as it can be said without the bytes that it programs.
 pub fn operation_at(layout: Layout, n: usize, phase: u32, index: usize) -> Operation
-    requires { ⌜ (index < count layout n phase) × (layout .update + page * index < 16777216) ⌝ }
+    requires { ⌜ (index < count layout n phase) × (layout .«update_place» + page * index < 16777216) ⌝ }
     ensures { λ r. ⌜ ((image : List ℕ) → length image ≡ n → r ≡ operationOf (orderOf spi layout image phase index)) ⌝ }
 {
-    let page = layout.update + Spi::PAGE * index;
+    let page = layout.update_place + Spi::PAGE * index;
     match phase {
         0 => Operation::Erase {
             place: 0,
@@ -58,12 +72,12 @@ pub fn operation_at(layout: Layout, n: usize, phase: u32, index: usize) -> Opera
             length: Spi::PAGE,
         },
         2 => Operation::Erase {
-            place: layout.update + Spi::SEGMENT * index,
+            place: layout.update_place + Spi::SEGMENT * index,
             length: Spi::SEGMENT,
         },
         3 => Operation::Program {
             place: page,
-            length: smaller(n - Spi::PAGE * index, Spi::PAGE),
+            length: min(n - Spi::PAGE * index, Spi::PAGE),
         },
         4 => Operation::Look {
             place: page,
@@ -71,11 +85,11 @@ pub fn operation_at(layout: Layout, n: usize, phase: u32, index: usize) -> Opera
         },
         5 => Operation::Program {
             place: Spi::SWITCH,
-            length: 4,
+            length: Spi::SWITCH_LENGTH,
         },
         _ => Operation::Look {
             place: Spi::SWITCH,
-            length: 4,
+            length: Spi::SWITCH_LENGTH,
         },
     }
 }
@@ -85,8 +99,8 @@ fn image_page<'a>(image: &'a [u8], index: usize) -> &'a [u8]
     requires { ⌜ page * index < 16777216 ⌝ }
     ensures { λ r. ⌜ now r ≡ pageOf (now (image .entry)) index ⌝ }
 {
-    let from = smaller(Spi::PAGE * index, image.len());
-    let to = smaller(from + Spi::PAGE, image.len());
+    let from = min(Spi::PAGE * index, image.len());
+    let to = min(from + Spi::PAGE, image.len());
     &image[from..to]
 }
 
@@ -109,7 +123,7 @@ pub fn bytes_at(image: &[u8], phase: u32, index: usize) -> [u8; 256]
 {
     let on = Spi::ON;
     match phase {
-        3 | 5 => filled_page(carried_bytes(image, phase, index, &on)),
+        3 | 5 => padded_page(carried_bytes(image, phase, index, &on)),
         _ => [0xFF; 256],
     }
 }

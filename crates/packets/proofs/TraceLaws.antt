@@ -6,9 +6,8 @@ use mathlib.Core.List.{List, [], _∷_}
 use native.Mathlib.Omega.{arith}
 use lib.ListN.{length}
 use Rattle.packets.specs.Header.{headOf, effectOf}
-use Rattle.packets.specs.Trace.{Before, other, Mode, header, payload, modeOf, afterHeader, wrote, ended, jumps, faulty, short, trace, Trace, lastWbstar, finish, listOf}
-use Rattle.packets.specs.declared.trace.Finish.the-variants.{Ended}
-use Rattle.packets.specs.declared.header.Effect.the-variants.{GoesOn, Desync, Iprog}
+use Rattle.packets.specs.Trace.{Before, other, Mode, header, payload, modeOf, afterHeader, wrote, desync, iprog, faulty, short, trace, Trace, lastWbstar, finish, listOf}
+use Rattle.packets.specs.Types.{FinishEnded, GoesOn, Desync, EffectIprog}
 
 pub trace-none : (p : ℕ) (m : Mode) → trace [] p m ≡ short
 unfolding trace
@@ -30,21 +29,21 @@ module _ (word : ℕ) (ws : List ℕ) (p register left : ℕ) where
   trace-data e = rw (e, trace)
 
   pub trace-desync : effectOf register word ≡ Desync →
-      trace (word ∷ ws) p (payload register left) ≡ wrote (record { register = register; word = word; place = p }) left (ended (p + 4))
+      trace (word ∷ ws) p (payload register left) ≡ wrote (record { register = register; word = word; place = p }) left (desync (p + 4))
   unfolding trace
   trace-desync e = rw (e, trace)
 
-  pub trace-iprog : effectOf register word ≡ Iprog →
-      trace (word ∷ ws) p (payload register left) ≡ wrote (record { register = register; word = word; place = p }) left (jumps p)
+  pub trace-iprog : effectOf register word ≡ EffectIprog →
+      trace (word ∷ ws) p (payload register left) ≡ wrote (record { register = register; word = word; place = p }) left (iprog p)
   unfolding trace
   trace-iprog e = rw (e, trace)
 
 -- A reading that ends has counted its writes.
-pub counted : (t : Trace) (writes wbstar end n : ℕ) → finish t writes wbstar ≡ Ended end n → n ≡ writes + length (listOf t)
+pub counted : (t : Trace) (writes wbstar end n : ℕ) → finish t writes wbstar ≡ FinishEnded end n → n ≡ writes + length (listOf t)
 unfolding finish listOf
 counted (wrote w left t) writes wbstar end n e =
     let h : n ≡ writes + 1 + length (listOf t) = counted t (writes + 1) (lastWbstar w wbstar) end n e in omega arith
-counted (ended p) writes wbstar end n e = let h : writes ≡ n = cc in omega arith
-counted (jumps p) writes wbstar end n e = let z : _≡_ {A = ℕ} 0 1 = cc in absurd (omega arith)
+counted (desync p) writes wbstar end n e = let h : writes ≡ n = cc in omega arith
+counted (iprog p) writes wbstar end n e = let z : _≡_ {A = ℕ} 0 1 = cc in absurd (omega arith)
 counted (faulty p) writes wbstar end n e = let z : _≡_ {A = ℕ} 0 1 = cc in absurd (omega arith)
 counted short writes wbstar end n e = let z : _≡_ {A = ℕ} 0 1 = cc in absurd (omega arith)

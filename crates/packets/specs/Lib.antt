@@ -1,3 +1,4 @@
 -- The packet rules, in the order to read them: one word, and words to writes.
+pub mod Types
 pub mod Header
 pub mod Trace

@@ -7,14 +7,7 @@ use lib.ListN.{drop}
 use lib.Dec.{eqb}
 use Rattle.framing.specs.Words.{words}
 use Rattle.packets.specs.Header.{headOf, effectOf, WBSTAR}
-use Rattle.packets.specs.declared.header.Header.{Header}
-use Rattle.packets.specs.declared.header.Header.the-variants.{Nop, Type1, Type2, Fault as BadHeader}
-use Rattle.packets.specs.declared.header.Effect.the-variants.{GoesOn, Desync, Iprog as Jumps}
-use Rattle.packets.specs.declared.trace.Finish.{Finish}
-use Rattle.packets.specs.declared.trace.Finish.the-variants.{Ended, Iprog, Fault, Short}
-use Rattle.packets.specs.declared.trace.Write.{Write}
-use Rattle.packets.specs.declared.trace.WriteAnswer.{WriteAnswer}
-use Rattle.packets.specs.declared.trace.WriteAnswer.the-variants.{Found, Nothing, Refused}
+use Rattle.packets.specs.Types.{Header, Nop, Type1, Type2, BadHeader, GoesOn, Desync, EffectIprog, Finish, FinishEnded, FinishIprog, FinishFault, FinishShort, Write, WriteAnswer, WriteFound, NoWrite, WriteRefused}
 
 -- What the word just before a header allows: a type 1 write header of count 0 opens its register to a type 2 header, every other word opens none.
 pub data Before : Type 0 where
@@ -42,8 +35,8 @@ afterHeader BadHeader before = none
 -- What reading words does: writes, each with the data words left in its packet, and then an end.
 pub data Trace : Type 0 where
   wrote : Write → ℕ → Trace → Trace
-  ended : ℕ → Trace
-  jumps : ℕ → Trace
+  desync : ℕ → Trace
+  iprog : ℕ → Trace
   faulty : ℕ → Trace
   short : Trace
 
@@ -56,8 +49,8 @@ trace (word ∷ more) place (payload register left) =
     wrote (record { register = register; word = word; place = place }) left
     (elim (effectOf register word) [
       | GoesOn ↦ trace more (place + 4) (modeOf left register other)
-      | Desync ↦ ended (place + 4)
-      | Jumps ↦ jumps place
+      | Desync ↦ desync (place + 4)
+      | EffectIprog ↦ iprog place
     ])
 
 -- the last WBSTAR word
@@ -71,20 +64,20 @@ target wbstar = wbstar % 2 ^ 29
 -- how a trace ends, with the writes and the last WBSTAR word before it
 unfoldable pub finish : Trace → ℕ → ℕ → Finish
 finish (wrote write left more) writes wbstar = finish more (writes + 1) (lastWbstar write wbstar)
-finish (ended end) writes wbstar = Ended end writes
-finish (jumps place) writes wbstar = Iprog place (target wbstar)
-finish (faulty place) writes wbstar = Fault place
-finish short writes wbstar = Short
+finish (desync end) writes wbstar = FinishEnded end writes
+finish (iprog place) writes wbstar = FinishIprog place (target wbstar)
+finish (faulty place) writes wbstar = FinishFault place
+finish short writes wbstar = FinishShort
 
 -- the writes of a trace, in order
 unfoldable pub listOf : Trace → List Write
 listOf (wrote write left more) = write ∷ listOf more
-listOf (ended end) = []
-listOf (jumps place) = []
+listOf (desync end) = []
+listOf (iprog place) = []
 listOf (faulty place) = []
 listOf short = []
 
--- the trace of the words from a place just after a sync; no WBSTAR was written, and no header stands before
+-- the trace of the words from a place just after a sync; no WBSTAR was written, and no header comes before
 abbrev pub traceFrom : List ℕ → ℕ → Trace
 traceFrom bytes from = trace (words (drop from bytes)) from (header other)
 
@@ -100,12 +93,12 @@ contents writes = map (λ w. (w .register, w .word)) writes
 
 -- the i-th, counted from 0, or that there is none
 unfoldable pub nthWrite : List Write → ℕ → WriteAnswer
-nthWrite [] i = Nothing
-nthWrite (write ∷ more) zero = Found write
+nthWrite [] i = NoWrite
+nthWrite (write ∷ more) zero = WriteFound write
 nthWrite (write ∷ more) (suc i) = nthWrite more i
 
 -- a write that was fetched, its place apart
 unfoldable pub contentOf : WriteAnswer → Option (ℕ × ℕ)
-contentOf (Found write) = some (write .register, write .word)
-contentOf Nothing = none
-contentOf (Refused number place) = none
+contentOf (WriteFound write) = some (write .register, write .word)
+contentOf NoWrite = none
+contentOf (WriteRefused number place) = none

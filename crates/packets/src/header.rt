@@ -2,7 +2,7 @@
 ghost use mathlib.Core.Path.{_≡_};
 ghost use mathlib.Core.Bool.{true};
 ghost use Prim.Native.Nat.{_/_, _%_};
-ghost use Rattle.packets.specs.declared.header.Header.the-variants.{Type1, Type2};
+ghost use Rattle.packets.specs.Types.{Type1, Type2};
 ghost use Rattle.packets.specs.Header.{registerOk, type1Of, type2Of, headOf, effectOf};
 
 pub const CMD: u32 = 4;

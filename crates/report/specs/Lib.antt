@@ -1,3 +1,4 @@
--- What the contracts of the public calls say, in the order to read it, after the lines of `reportlines`: the report of a chip, and the calls.
-pub mod Chips
-pub mod Answers
+-- What the contracts of the public calls say: the report of a refusal, and of a chip.
+pub mod Types
+pub mod Refusal
+pub mod Boot

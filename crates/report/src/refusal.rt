@@ -1,7 +1,8 @@
 // The report of a refusal.
 ghost use mathlib.Core.Path.{_≡_};
 ghost use lib.ListN.{length};
-ghost use Rattle.report.specs.Answers.{refusalAnswer, refusalOutput};
+ghost use Rattle.report.specs.Refusal.{refusalAnswer, refusalOutput};
+use base::refusal;
 use reportlines::put_refused;
 use reportlines::refused_length;
 
@@ -11,7 +12,7 @@ pub enum ReportAnswer {
     Refused { number: u32, place: usize },
 }
 
-// The line `REFUSED`, number, place.
+// The line `REFUSED`, number, place at the front of a buffer: how long it is; or refusal 19, and the buffer as it was.
 pub fn report(number: u32, place: usize, out: &mut [u8]) -> ReportAnswer
     ensures answer { λ r. ⌜ r ≡ refusalAnswer number place (length (now (out .entry))) ⌝ }
     ensures output { λ r. ⌜ now (out .exit) ≡ refusalOutput number place (now (out .entry)) ⌝ }
@@ -19,7 +20,7 @@ pub fn report(number: u32, place: usize, out: &mut [u8]) -> ReportAnswer
     let length = refused_length(number, place);
     if out.len() < length {
         return ReportAnswer::Refused {
-            number: 19,
+            number: refusal::NO_ROOM,
             place: 0,
         };
     }

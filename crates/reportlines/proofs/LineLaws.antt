@@ -5,9 +5,9 @@ use mathlib.Core.Bool.{Bool, true, false}
 use mathlib.Core.List.{List, [], _∷_}
 use native.Mathlib.Omega.{arith}
 use lib.ListN.{length, length-append}
-use Rattle.packets.specs.declared.trace.Write.{Write}
+use Rattle.reportlines.specs.Types.{Write}
 use Rattle.fields.specs.Fields.{ascii, decimal}
-use Rattle.reportlines.specs.Lines.{loadedLine, writeLine, writeLines, endLine, stuckLine, refusedLine}
+use Rattle.reportlines.specs.Reportlines.{loadedLine, writeLine, writeLines, endLine, stuckLine, refusedLine}
 use Rattle.fields.proofs.Laws.{length-hexadecimal}
 
 -- `LOADED`, and which.

@@ -1,2 +1,3 @@
 -- What the contracts of this crate say: the lines of a report, byte for byte.
-pub mod Lines
+pub mod Types
+pub mod Reportlines

@@ -5,7 +5,7 @@ ghost use mathlib.Core.Path.{_≡_};
 ghost use Prim.Native.Nat.{_+_, _≤_};
 ghost use lib.ListN.{length};
 ghost use lib.Seq.{paste};
-ghost use Rattle.reportlines.specs.Lines.{writeLine, stuckLine, refusedLine};
+ghost use Rattle.reportlines.specs.Reportlines.{writeLine, stuckLine, refusedLine};
 use fields::decimal_length;
 use fields::put;
 use fields::put_decimal_field;

@@ -1,7 +1,7 @@
 // What a chip loads, and an image by itself, as numbers.
 ghost use mathlib.Core.Path.{_≡_};
-ghost use Rattle.results.specs.Results.{bootResult, writeResult, imageResult};
-use bootreader::chip::BootAnswer;
+ghost use Rattle.results.specs.Boot.{bootResult, writeResult, imageResult};
+use bootreader::boot::BootAnswer;
 use bootreader::image::ImageAnswer;
 use packets::trace::WriteAnswer;
 

@@ -1,6 +1,6 @@
 // What building a chip came to, as numbers.
 ghost use mathlib.Core.Path.{_≡_};
-ghost use Rattle.results.specs.Results.{buildResult};
+ghost use Rattle.results.specs.Build.{buildResult};
 use builder::BuildAnswer;
 
 // A refusal's number and place, or 0 and 0.

@@ -1,8 +1,7 @@
 // What a chip, an image, a builder and the reader of an image file answered, as a C host gets it: plain structs of
-// numbers, with 0 for what does not apply (`boot`, `build`, `text`); and the chip kinds as numbers (`kind`). A run's
-// answers are in crate `runresults`. For the crates above it alone.
+// numbers, with 0 for what does not apply (`boot`, `build`, `text`). A run's answers are in crate `runresults`. For the
+// crates above it alone.
 
 pub mod boot;
 pub mod build;
-pub mod kind;
 pub mod text;

@@ -1,6 +1,6 @@
 // What reading an image file came to, as numbers.
 ghost use mathlib.Core.Path.{_≡_};
-ghost use Rattle.results.specs.Results.{readResult};
+ghost use Rattle.results.specs.Text.{readResult};
 use mcs::reader::ReadAnswer;
 
 // A refusal's number and place, or 0, 0 and how many bytes were read.

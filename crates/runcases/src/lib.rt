@@ -7,13 +7,13 @@ use caseasks::field;
 use caselines::SPI;
 use caselines::parse::Numbers;
 use caselines::words;
-use chip::kind::LayoutAnswer;
-use chip::kind::Spi;
 use host::run::tealsettle_finished;
 use host::run::tealsettle_order;
 use host::run::tealsettle_reply;
 use host::run::tealsettle_start;
 use host::run::tealsettle_total;
+use kind::layout::LayoutAnswer;
+use kind::spi::Spi;
 
 fn layout(n: Numbers) {
     let answer = Spi::layout(n.f, n.g, n.h).check();

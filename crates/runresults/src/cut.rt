@@ -1,6 +1,6 @@
 // What a run that was cut came to, as numbers.
 ghost use mathlib.Core.Path.{_≡_};
-ghost use Rattle.runresults.specs.Results.{benchResult};
+ghost use Rattle.runresults.specs.Cut.{benchResult};
 use crate::run::TealsettleState;
 use crate::run::no_state;
 use crate::run::state_result;

@@ -2,17 +2,18 @@
 ghost use Prim.Native.Nat.{ℕ};
 ghost use mathlib.Core.Path.{_≡_};
 ghost use mathlib.Core.List.{List};
-ghost use Rattle.chip.specs.Kind.{spi};
-ghost use Rattle.updater.specs.Answers.{orderRefused, orderAnswer, replyAnswer};
-ghost use Rattle.runresults.specs.Results.{stateOf, stateResult, noState, startResult, totalResult, orderWith, orderedResult, orderResult, orderNumbers, replied, replyResult, finishedResult};
-use chip::kind::Spi;
+ghost use Rattle.kind.specs.Spi.{spi};
+ghost use Rattle.updater.specs.Run.{orderRefused, orderAnswer, replyAnswer};
+ghost use Rattle.runresults.specs.Run.{stateOf, stateResult, noState, startResult, totalResult, orderedResult, orderResult, orderNumbers, replyResult, finishedResult};
+ghost use Rattle.runresults.specs.Internal.{orderWith, replied};
+use kind::spi::Spi;
 use orders::Operation;
 use starts::StartAnswer;
 use starts::TotalAnswer;
-use updater::run::Asked;
 use updater::run::FinishedAnswer;
+use updater::run::OrderResult;
 use updater::run::ReplyAnswer;
-use updater::run::State;
+use updater::state::State;
 
 // Where a run is.
 #[repr(C)]
@@ -63,7 +64,12 @@ struct OrderNumbers {
     length: usize,
 }
 
+// What an order asks for, as a number.
+const ERASE: u32 = 1;
+
 const PROGRAM: u32 = 2;
+
+const LOOK: u32 = 3;
 
 // The number and place of a refusal or a stop, and the state handed back.
 #[repr(C)]
@@ -97,7 +103,7 @@ pub fn state_of(
 {
     State {
         layout: Spi::layout(length, update, area),
-        length: n,
+        image_length: n,
         phase,
         index,
         outcome,
@@ -110,10 +116,10 @@ pub fn state_result(state: State) -> TealsettleState
 {
     let layout = state.layout;
     TealsettleState {
-        length: layout.length,
-        update: layout.update,
-        area: layout.area,
-        image_length: state.length,
+        length: layout.chip_length,
+        update: layout.update_place,
+        area: layout.update_length,
+        image_length: state.image_length,
         phase: state.phase,
         index: state.index,
         outcome: state.outcome,
@@ -181,7 +187,7 @@ fn operation_numbers(operation: Operation) -> OrderNumbers
         Operation::Erase { place, length } => OrderNumbers {
             number: 0,
             place: 0,
-            operation: 1,
+            operation: ERASE,
             address: place,
             length,
         },
@@ -195,7 +201,7 @@ fn operation_numbers(operation: Operation) -> OrderNumbers
         Operation::Look { place, length } => OrderNumbers {
             number: 0,
             place: 0,
-            operation: 3,
+            operation: LOOK,
             address: place,
             length,
         },
@@ -203,12 +209,12 @@ fn operation_numbers(operation: Operation) -> OrderNumbers
 }
 
 // The numbers of an order or a refusal.
-fn order_numbers(asked: Asked) -> OrderNumbers
+fn order_numbers(asked: OrderResult) -> OrderNumbers
     ensures { λ r. ⌜ ((bytes : List ℕ) → orderWith r bytes ≡ orderResult asked bytes) ⌝ }
 {
     match asked {
-        Asked::Ordered { operation } => operation_numbers(operation),
-        Asked::Refused { number, place } => OrderNumbers {
+        OrderResult::Ordered { operation } => operation_numbers(operation),
+        OrderResult::Refused { number, place } => OrderNumbers {
             number,
             place,
             operation: 0,
@@ -237,7 +243,7 @@ pub fn order_of(state: State, image: &[u8]) -> TealsettleOrder
     ensures { λ r. ⌜ r ≡ orderNumbers (orderAnswer spi state (now (image .entry))) ⌝ }
 {
     let answer = state.order(image);
-    let asked = answer.asked;
+    let asked = answer.result;
     let numbers = order_numbers(asked);
     // The bytes beside anything but a program are FF: written where they go, they need no copy.
     if numbers.operation != PROGRAM {
@@ -298,10 +304,10 @@ fn reply_result(answer: ReplyAnswer) -> TealsettleReply
 }
 
 // The state after a reply to the order of a state.
-pub fn reply_of(state: State, image: &[u8], said: u32, bytes: &[u8]) -> TealsettleReply
-    ensures { λ r. ⌜ r ≡ replyResult (replyAnswer spi state (now (image .entry)) said (now (bytes .entry))) ⌝ }
+pub fn reply_of(state: State, image: &[u8], reply_kind: u32, bytes: &[u8]) -> TealsettleReply
+    ensures { λ r. ⌜ r ≡ replyResult (replyAnswer spi state (now (image .entry)) «reply_kind» (now (bytes .entry))) ⌝ }
 {
-    reply_result(state.reply(image, said, bytes))
+    reply_result(state.reply(image, reply_kind, bytes))
 }
 
 pub fn finished_result(answer: FinishedAnswer) -> TealsettleFinished

@@ -1,2 +1,3 @@
 -- How the code steps through packets. No promise of a public call rests on it.
-pub mod Walk
+pub mod Types
+pub mod Scan

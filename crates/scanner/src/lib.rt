@@ -1,4 +1,4 @@
 // How the code steps through packets, whole ones at a time where it can. For the crate above it alone: its
-// functions ask their caller for a walk that goes on.
+// functions ask their caller for a scanner that goes on.
 
-pub mod walk;
+pub mod scan;

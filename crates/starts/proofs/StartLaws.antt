@@ -5,25 +5,18 @@ use mathlib.Core.List.{List}
 use native.Mathlib.Omega.{arith}
 use lib.ListN.{length}
 use Rattle.base.specs.Question.{ask}
-use Rattle.bootreader.specs.Answers.{aloneCase, imageLength, imageWithin}
-use Rattle.configreader.specs.declared.Outcome.{Outcome}
-use Rattle.configreader.specs.declared.Outcome.the-variants.{Loaded, Iprog, Stuck}
+use Rattle.bootreader.specs.Image.{aloneCase, imageWithin}
+use Rattle.kind.specs.Layout.{imageLengthAllowed, layoutAnswer, askLayout}
+use Rattle.starts.specs.Types.{Outcome, Loaded, OutcomeIprog, Stuck, ImageAnswer, LayoutAnswer, Layout, StartAnswer, Total, TotalRefused, Started, StartRefused, State}
 use Rattle.base.proofs.Laws.{asked}
-use Rattle.bootreader.specs.declared.image.ImageAnswer.{ImageAnswer}
 use Rattle.bootreader.proofs.Laws.{onAnswer, by-answer}
-use Rattle.chip.specs.Kind.{spi, Kind, LoadsAlone, Lawful}
-use Rattle.chip.specs.Answers.{layoutAnswer}
-use Rattle.chip.specs.declared.kind.LayoutAnswer.{LayoutAnswer}
-use Rattle.chip.proofs.Laws.{onLayout, by-layout}
+use Rattle.kind.specs.Spi.{spi}
+use Rattle.kind.specs.Kind.{Kind}
+use Rattle.chip.specs.Chip.{LoadsAlone, Lawful}
+use Rattle.kind.proofs.Laws.{onLayout, by-layout}
 use Rattle.orders.specs.Table.{total}
-use Rattle.updater.specs.Run.{first}
+use Rattle.updater.specs.State.{first}
 use Rattle.starts.specs.Starts.{totalAnswer, askRun, startAnswer}
-use Rattle.starts.specs.declared.StartAnswer.{StartAnswer}
-use Rattle.starts.specs.declared.TotalAnswer.the-variants.{Total, Refused as TotalRefused}
-use Rattle.chip.specs.Layout.{askLayout}
-use Rattle.chip.specs.declared.kind.Layout.{Layout}
-use Rattle.updater.specs.declared.run.State.{State}
-use Rattle.starts.specs.declared.StartAnswer.the-variants.{Started, Refused as StartRefused}
 use Rattle.updater.proofs.Laws.{Numbers}
 
 -- A start that is accepted: questions 1 to 5, and the first state.
@@ -50,7 +43,7 @@ opened kind lawful layout image state e =
       alone = record { sync = sync; end = end; writes = writes; reading = r ∙ ap (Loaded sync end writes) (lawful .alone-stays image sync end writes jumped r) };
       begins = cc;
     }
-    go numbers (Iprog place) r q = absurd (refused-started 6 place q)
+    go numbers (OutcomeIprog place) r q = absurd (refused-started 6 place q)
     go numbers (Stuck place) r q = absurd (refused-started 5 place q)
 
 -- A start whose questions all have a yes is accepted.
@@ -62,14 +55,14 @@ starts kind layout image numbers alone = rw (numbers .long, numbers .starts, num
 abbrev byImage : Layout → List ℕ → ImageAnswer → StartAnswer
 byImage layout image a = onAnswer StartRefused (λ sync end writes. Started (first layout (length image))) a
 
-pub start-by : (layout : Layout) (image : List ℕ) (l : LayoutAnswer) (a : ImageAnswer) → layoutAnswer layout ≡ l → imageWithin (layout .area) image ≡ a →
+pub start-by : (layout : Layout) (image : List ℕ) (l : LayoutAnswer) (a : ImageAnswer) → layoutAnswer layout ≡ l → imageWithin spi (layout .«update_length») image ≡ a →
     onLayout StartRefused (byImage layout image a) l ≡ startAnswer spi layout image
 unfolding startAnswer askRun
 start-by layout image l a p q =
-    rw (sym p, sym q) (ap (λ (rest : StartAnswer). onLayout StartRefused rest (layoutAnswer layout)) (by-answer StartRefused (λ sync end writes. Started (first layout (length image))) (layout .area) image) ∙ by-layout StartRefused _ layout)
+    rw (sym p, sym q) (ap (λ (rest : StartAnswer). onLayout StartRefused rest (layoutAnswer layout)) (by-answer StartRefused (λ sync end writes. Started (first layout (length image))) (layout .«update_length») image) ∙ by-layout StartRefused _ layout)
 
 -- So does a total.
 pub total-by : (layout : Layout) (n : ℕ) (l : LayoutAnswer) → layoutAnswer layout ≡ l →
-    onLayout TotalRefused (ask (imageLength (layout .area) n) (TotalRefused 4 0) (Total (total layout n))) l ≡ totalAnswer layout n
+    onLayout TotalRefused (ask (imageLengthAllowed (layout .«update_length») n) (TotalRefused 4 0) (Total (total layout n))) l ≡ totalAnswer layout n
 unfolding totalAnswer
 total-by layout n l p = rw (sym p) (by-layout TotalRefused _ layout)

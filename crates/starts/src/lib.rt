@@ -1,16 +1,17 @@
 // The start of a run, and how many orders it has.
 ghost use mathlib.Core.Path.{_≡_};
-ghost use Rattle.chip.specs.Answers.{layoutAnswer};
-ghost use Rattle.chip.specs.declared.kind.LayoutAnswer.the-variants.{Allowed};
-ghost use Rattle.chip.specs.Kind.{spi};
+ghost use Rattle.kind.specs.Layout.{layoutAnswer};
+ghost use Rattle.starts.specs.Types.{LayoutAllowed};
+ghost use Rattle.kind.specs.Spi.{spi};
 ghost use Rattle.starts.specs.Starts.{startAnswer, totalAnswer};
+use base::refusal;
 use bootreader::image::ImageAnswer;
 use bootreader::image::check_within;
-use bootreader::image::length_allowed;
-use chip::kind::Layout;
-use chip::kind::LayoutAnswer;
-use chip::kind::Spi;
-use updater::run::State;
+use kind::layout::Layout;
+use kind::layout::LayoutAnswer;
+use kind::layout::image_length_allowed;
+use orders::orders_before;
+use updater::state::State;
 
 // The first state of a run, or a refusal.
 pub enum StartAnswer {
@@ -26,10 +27,10 @@ pub enum TotalAnswer {
 
 // Questions 4 and 5 of a layout that is allowed, then the first state.
 fn start_allowed(layout: Layout, image: &[u8]) -> StartAnswer
-    requires { ⌜ layoutAnswer layout ≡ Allowed ⌝ }
+    requires { ⌜ layoutAnswer layout ≡ LayoutAllowed ⌝ }
     ensures { λ r. ⌜ r ≡ startAnswer spi layout (now (image .entry)) ⌝ }
 {
-    let checked = check_within(image, layout.area);
+    let checked = check_within(image, layout.update_length);
     match checked {
         ImageAnswer::Accepted {
             sync: _,
@@ -38,7 +39,7 @@ fn start_allowed(layout: Layout, image: &[u8]) -> StartAnswer
         } => StartAnswer::Started {
             state: State {
                 layout,
-                length: image.len(),
+                image_length: image.len(),
                 phase: 0,
                 index: 0,
                 outcome: 0,
@@ -48,7 +49,7 @@ fn start_allowed(layout: Layout, image: &[u8]) -> StartAnswer
     }
 }
 
-// Starts a run: questions 1 to 5, then its first state.
+// Starts a run: its first state; or refusal 1 to 6.
 pub fn start(layout: Layout, image: &[u8]) -> StartAnswer
     ensures { λ r. ⌜ r ≡ startAnswer spi layout (now (image .entry)) ⌝ }
 {
@@ -61,24 +62,21 @@ pub fn start(layout: Layout, image: &[u8]) -> StartAnswer
 
 // Question 4 of a layout that is allowed, then the number of orders.
 fn total_allowed(layout: Layout, length: usize) -> TotalAnswer
-    requires { ⌜ layoutAnswer layout ≡ Allowed ⌝ }
+    requires { ⌜ layoutAnswer layout ≡ LayoutAllowed ⌝ }
     ensures { λ r. ⌜ r ≡ totalAnswer layout length ⌝ }
 {
-    if !length_allowed(layout.area, length) {
+    if !image_length_allowed(layout.update_length, length) {
         return TotalAnswer::Refused {
-            number: 4,
+            number: refusal::BAD_IMAGE_LENGTH,
             place: 0,
         };
     }
-    let erases = layout.area / Spi::SEGMENT;
-    let looks = layout.area / Spi::PAGE;
-    let programs = (length + 255) / Spi::PAGE;
     TotalAnswer::Total {
-        orders: erases + looks + programs + 19,
+        orders: orders_before(layout, length, 7),
     }
 }
 
-// How many orders a run has with an image of so many bytes.
+// How many orders a run has with an image of so many bytes; or refusal 1 to 4.
 pub fn total(layout: Layout, length: usize) -> TotalAnswer
     ensures { λ r. ⌜ r ≡ totalAnswer layout length ⌝ }
 {

@@ -1,61 +1,59 @@
--- A run's state, and its current order. Document 01, "Orders of one run" and question 6.
-use Prim.Native.Nat.{ℕ, _+_}
+-- The public calls on a run, each as one definition. Document 01, "Orders of one run" and "Questions at the door".
+use Prim.Native.Nat.{ℕ}
 use mathlib.Core.Bool.{Bool, true, false}
+use mathlib.Core.Option.{Option, some, none}
 use mathlib.Core.List.{List}
-use lib.Dec.{eqb, leb, ltb}
-use lib.ListN.{getD}
+use lib.ListN.{length}
+use Rattle.base.specs.Refusal.{badState, runEnded, badReply, switchNotErased, updateDiffers, switchNotOn}
 use Rattle.base.specs.Question.{ask}
-use Rattle.bootreader.specs.Answers.{imageLength}
-use Rattle.chip.specs.Kind.{Kind}
-use Rattle.chip.specs.Layout.{askLayout}
-use Rattle.chip.specs.declared.kind.Layout.{Layout}
-use Rattle.orders.specs.Table.{count, before}
-use Rattle.orders.specs.Orders.{Order, erase, orders}
-use Rattle.updater.specs.declared.run.State.{State}
+use Rattle.kind.specs.Layout.{page}
+use Rattle.flash.specs.Flash.{erased}
+use Rattle.kind.specs.Kind.{Kind}
+use Rattle.orders.specs.Table.{byPhase}
+use Rattle.orders.specs.Orders.{Order, erase, program, look, operationOf, orderBytes}
+use Rattle.orders.specs.Replies.{done, read, asksFor}
+use Rattle.updater.specs.State.{after, ended, running, fits, currentOrder}
+use Rattle.comparison.specs.Comparison.{differs}
+use Rattle.updater.specs.Types.{State, FinishedAnswer, Running, RunHasEnded, FinishedRefused, Ordered, OrderRefused, OrderAnswer, ReplyAnswer, Next, Stopped, ReplyRefused}
 
--- How many orders come before a state's.
-abbrev pub position : State → ℕ
-position state = before (state .layout) (state .length) (state .phase) + state .index
+-- `State::finished`: 7 for a state that does not fit (no image is lent), then whether the run has ended
+unfoldable pub finishedCase : Bool → State → FinishedAnswer
+finishedCase true state = Running
+finishedCase false state = RunHasEnded (state .outcome)
 
--- A run begins at phase 0, index 0, outcome 0.
-abbrev pub first : Layout → ℕ → State
-first layout n = record { layout = layout; length = n; phase = 0; index = 0; outcome = 0 }
+unfoldable pub finishedAnswer : State → FinishedAnswer
+finishedAnswer state = ask (fits state (state .«image_length»)) (FinishedRefused badState 0) (finishedCase (running state) state)
 
--- The state after the order of a state: the next index, or the next phase if that was the last of its own.
-unfoldable pub after : State → State
-after state =
-    elim (ltb (state .index + 1) (count (state .layout) (state .length) (state .phase))) [
-      | true ↦ record { layout = state .layout; length = state .length; phase = state .phase; index = state .index + 1; outcome = state .outcome }
-      | false ↦ record { layout = state .layout; length = state .length; phase = state .phase + 1; index = 0; outcome = state .outcome }
-    ]
+-- `State::order`: 7 for a state that does not fit, 8 for a run that has ended, then the current order
+abbrev pub ordered : Order → OrderAnswer
+ordered order = record { result = Ordered (operationOf order); bytes = orderBytes order }
 
--- A stop hands back phase 7 and its outcome.
-abbrev pub ended : State → ℕ → State
-ended state outcome = record { layout = state .layout; length = state .length; phase = 7; index = 0; outcome = outcome }
+abbrev pub orderRefused : ℕ → OrderAnswer
+orderRefused number = record { result = OrderRefused number 0; bytes = erased page }
 
--- Is the run before phase 7?
-abbrev pub running : State → Bool
-running state = ltb (state .phase) 7
+unfoldable pub orderAnswer : Kind → State → List ℕ → OrderAnswer
+orderAnswer kind state image =
+    ask (fits state (length image)) (orderRefused badState)
+    (ask (running state) (orderRefused runEnded) (ordered (currentOrder kind state image)))
 
--- An ended run's outcome is 0, or 10 to 12.
-unfoldable pub outcomeAllowed : ℕ → Bool
-outcomeAllowed outcome = elim (eqb outcome 0) [ true ↦ true | false ↦ ask (leb 10 outcome) false (leb outcome 12) ]
+-- The number of a stop: 10 in phase 1, 11 in phase 4, 12 in phase 6. No other phase looks.
+unfoldable pub stopOf : ℕ → ℕ
+stopOf phase = byPhase phase 0 switchNotErased 0 0 updateDiffers 0 switchNotOn 0
 
--- Phase, index and outcome: before phase 7 the index of one of the phase's orders, and outcome 0; in phase 7 index 0.
-unfoldable pub stands : State → Bool
-stands state =
-    elim (running state) [
-      | true ↦ ask (ltb (state .index) (count (state .layout) (state .length) (state .phase))) false (eqb (state .outcome) 0)
-      | false ↦ ask (eqb (state .phase) 7) false (ask (eqb (state .index) 0) false (outcomeAllowed (state .outcome)))
-    ]
+-- Question 9: do the looked-at bytes agree? The stop is at the first differing address.
+unfoldable pub compared : Option ℕ → State → ReplyAnswer
+compared none state = Next (after state)
+compared (some address) state = Stopped (stopOf (state .phase)) address (ended state (stopOf (state .phase)))
 
--- Question 6: does the state fit: question 1 to 4 numbers, phase, index, outcome, n the lent length?
-unfoldable pub fits : State → ℕ → Bool
-fits state lent =
-    askLayout (λ number place. false) (state .layout)
-    (ask (imageLength (state .layout .area) (state .length)) false
-    (ask (stands state) false (eqb (state .length) lent)))
+-- questions 8 and 9 by the order
+unfoldable pub repliedTo : Order → State → ℕ → List ℕ → ReplyAnswer
+repliedTo (erase place count) state replyKind bytes = ask (asksFor done 0 replyKind (length bytes)) (ReplyRefused badReply 0 state) (Next (after state))
+repliedTo (program place contents) state replyKind bytes = ask (asksFor done 0 replyKind (length bytes)) (ReplyRefused badReply 0 state) (Next (after state))
+repliedTo (look place expected) state replyKind bytes =
+    ask (asksFor read (length expected) replyKind (length bytes)) (ReplyRefused badReply 0 state) (compared (differs place bytes expected) state)
 
--- The current order is the one at the state's position. (A state that fits, before phase 7, has one; no other gets as far.)
-abbrev pub currentOrder : Kind → State → List ℕ → Order
-currentOrder kind state image = getD (orders kind (state .layout) image) (position state) (erase 0 0)
+-- `State::reply`: 7, 8, 9, then 10 to 12. A refusal hands back the state it was given.
+unfoldable pub replyAnswer : Kind → State → List ℕ → ℕ → List ℕ → ReplyAnswer
+replyAnswer kind state image replyKind bytes =
+    ask (fits state (length image)) (ReplyRefused badState 0 state)
+    (ask (running state) (ReplyRefused runEnded 0 state) (repliedTo (currentOrder kind state image) state replyKind bytes))

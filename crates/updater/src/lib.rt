@@ -1,4 +1,4 @@
-// One run of the QuickBoot algorithm on a printer's chip: its calls (`run`), and its current order (`current`).
+// One run of the QuickBoot algorithm on a printer's chip: its state (`state`) and its calls (`run`).
 
-pub mod current;
 pub mod run;
+pub mod state;

@@ -1,3 +1,3 @@
 -- What crates above may count on of the cursor, beside the contracts.
-pub use Rattle.writes.proofs.CursorLaws.{told-rest, nth-step}
+pub use Rattle.writes.proofs.CursorLaws.{step-remaining, nth-step}
 unfoldable pub use Rattle.writes.proofs.CursorLaws.{given}

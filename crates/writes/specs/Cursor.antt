@@ -4,12 +4,8 @@ use mathlib.Core.List.{List, [], _∷_}
 use lib.ListN.{drop, take}
 use Rattle.framing.specs.Words.{words}
 use Rattle.packets.specs.Header.{effectOf}
-use Rattle.packets.specs.Trace.{other, Trace, wrote, ended, jumps, faulty, short, trace, modeOf, listOf}
-use Rattle.packets.specs.declared.header.Effect.the-variants.{GoesOn, Desync, Iprog}
-use Rattle.packets.specs.declared.trace.Write.{Write}
-use Rattle.writes.specs.declared.cursor.Cursor.{Cursor}
-use Rattle.writes.specs.declared.cursor.CursorStep.{CursorStep}
-use Rattle.writes.specs.declared.cursor.CursorStep.the-variants.{Wrote, Done}
+use Rattle.packets.specs.Trace.{other, Trace, wrote, desync, iprog, faulty, short, trace, modeOf, listOf}
+use Rattle.writes.specs.Types.{GoesOn, Desync, EffectIprog, Write, Cursor, CursorStep, Wrote, Done}
 
 -- a cursor before the first of so many writes of the packets from a place on
 abbrev pub cursorAt : ℕ → ℕ → Cursor
@@ -20,8 +16,8 @@ abbrev pub traceAt : List ℕ → Cursor → Trace
 traceAt bytes c = trace (words (drop (c .at) bytes)) (c .at) (modeOf (c .left) (c .register) other)
 
 -- the writes that a cursor still has to give
-abbrev pub rest : List ℕ → Cursor → List Write
-rest bytes c = take (c .remaining) (listOf (traceAt bytes c))
+abbrev pub remainingWrites : List ℕ → Cursor → List Write
+remainingWrites bytes c = take (c .remaining) (listOf (traceAt bytes c))
 
 -- the cursor after a write, of which so many data words of its packet are left; nothing is to come after DESYNC or IPROG
 unfoldable pub afterWrite : Write → ℕ → ℕ → Cursor
@@ -29,14 +25,14 @@ afterWrite write left remaining = record {
   at = write .place + 4;
   register = write .register;
   left = left;
-  remaining = elim (effectOf (write .register) (write .word)) [ GoesOn ↦ remaining | Desync ↦ 0 | Iprog ↦ 0 ];
+  remaining = elim (effectOf (write .register) (write .word)) [ GoesOn ↦ remaining | Desync ↦ 0 | EffectIprog ↦ 0 ];
 }
 
 -- the first write of a trace, with the cursor after it
 unfoldable pub firstOf : Trace → ℕ → CursorStep
 firstOf (wrote write left more) remaining = Wrote write (afterWrite write left remaining)
-firstOf (ended end) remaining = Done
-firstOf (jumps place) remaining = Done
+firstOf (desync end) remaining = Done
+firstOf (iprog place) remaining = Done
 firstOf (faulty place) remaining = Done
 firstOf short remaining = Done
 
@@ -45,9 +41,9 @@ unfoldable pub stepOf : List ℕ → Cursor → CursorStep
 stepOf bytes c = elim (c .remaining) [ zero ↦ Done | suc remaining ↦ firstOf (traceAt bytes c) remaining ]
 
 -- what a step tells of the writes still to come: its own, and then those of the cursor that it hands back
-unfoldable pub told : List ℕ → CursorStep → List Write
-told bytes (Wrote write c) = write ∷ rest bytes c
-told bytes Done = []
+unfoldable pub writesAfterStep : List ℕ → CursorStep → List Write
+writesAfterStep bytes (Wrote write c) = write ∷ remainingWrites bytes c
+writesAfterStep bytes Done = []
 
 -- the k-th step, counted from 0
 unfoldable pub nthStep : List ℕ → ℕ → CursorStep → CursorStep

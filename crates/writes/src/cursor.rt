@@ -2,16 +2,16 @@
 ghost use mathlib.Core.Path.{_≡_};
 ghost use Prim.Native.Nat.{_+_, _^_, _<_};
 ghost use Rattle.packets.specs.Trace.{nthWrite, writesFrom};
-ghost use Rattle.writes.specs.Cursor.{cursorAt, rest, stepOf, told, afterWrite};
-use crate::reading::follow;
+ghost use Rattle.writes.specs.Cursor.{cursorAt, remainingWrites, stepOf, writesAfterStep, afterWrite};
+use crate::reading::scan;
+use crate::reading::write_at;
 use packets::header::Effect;
 use packets::header::effect_of;
 use packets::trace::Write;
 use packets::trace::WriteAnswer;
-use scanner::walk::Status;
-use scanner::walk::Walk;
-use scanner::walk::Walked;
-use scanner::walk::from_sync;
+use scanner::scan::Scanner;
+use scanner::scan::Status;
+use scanner::scan::from_sync;
 
 // A place among the writes of a chip or an image: the next word's place, the packet's register and
 // the data words left in it, and how many writes are still to come.
@@ -46,18 +46,18 @@ impl Cursor {
         }
     }
 
-    // The next write of the bytes that the cursor was opened on. `told` says it of all that are to
+    // The next write of the bytes that the cursor was opened on. `writesAfterStep` says it of all that are to
     // come: this write, and then those of the cursor handed back, are those of this cursor.
     pub fn step(self, s: &[u8]) -> CursorStep
         ensures gives { λ r. ⌜ r ≡ stepOf (now (s .entry)) self ⌝ }
-        ensures lists { λ r. ⌜ told (now (s .entry)) r ≡ rest (now (s .entry)) self ⌝ }
+        ensures lists { λ r. ⌜ writesAfterStep (now (s .entry)) r ≡ remainingWrites (now (s .entry)) self ⌝ }
     {
         if self.remaining == 0 {
             return CursorStep::Done;
         }
-        let walked = follow(
+        let w = scan(
             s,
-            Walk {
+            Scanner {
                 at: self.at,
                 register: self.register,
                 left: self.left,
@@ -68,12 +68,14 @@ impl Cursor {
                 status: Status::Going,
             },
         );
-        let Walked::Reached { write, left } = walked else {
+        let status = w.status;
+        let Status::Reached = status else {
             return CursorStep::Done;
         };
+        let write = write_at(s, w);
         CursorStep::Wrote {
             write,
-            cursor: after_write(write, left, self.remaining - 1),
+            cursor: after_write(write, w.left, self.remaining - 1),
         }
     }
 }
@@ -101,9 +103,10 @@ fn after_write(write: Write, left: usize, remaining: usize) -> Cursor
 pub fn nth_from(s: &[u8], from: usize, i: usize) -> WriteAnswer
     ensures { λ r. ⌜ r ≡ nthWrite (writesFrom (now (s .entry)) from) i ⌝ }
 {
-    let walked = follow(s, from_sync(from, i));
-    match walked {
-        Walked::Reached { write, left: _ } => WriteAnswer::Found(write),
-        Walked::Finished(_) => WriteAnswer::Nothing,
-    }
+    let w = scan(s, from_sync(from, i));
+    let status = w.status;
+    let Status::Reached = status else {
+        return WriteAnswer::Nothing;
+    };
+    WriteAnswer::Found(write_at(s, w))
 }

@@ -6,13 +6,12 @@ use borrow.Author.Needs.{needs}
 use borrow.Author.Tests.{not-true, not-false}
 use lib.ListN.{length, drop}
 use Rattle.base.specs.Question.{ask}
-use Rattle.chip.specs.Kind.{spi}
-use Rattle.chip.specs.declared.kind.Layout.{Layout}
+use Rattle.kind.specs.Spi.{spi}
+use Rattle.bench.specs.Types.{Layout, Reached}
 use Rattle.orders.specs.Orders.{Order, orders}
-use Rattle.updater.specs.Run.{first}
+use Rattle.updater.specs.State.{first}
 use Rattle.effects.specs.Progress.{chipAfter}
 use Rattle.bench.specs.Bench.{cutAllowed, cutIn, benchOutput}
-use Rattle.bench.specs.declared.BenchAnswer.the-variants.{Reached}
 use Rattle.updater.proofs.Laws.{fits-says, fits-own}
 use Rattle.bench.proofs.BenchLaws.{CutAt, cut-at}
 use Rattle.bench.proofs.cut_begun.Statement.{statement}
@@ -41,7 +40,7 @@ asks c =
 damage-allowed-requires : tie.Need-damage-allowed-requires
 damage-allowed-requires c κs =
     let s = stops (c .before) in
-    (s .fit, ap (λ (l : Layout). l .length) (s .same) ∙ c .before .before .before .before .before .pre .2)
+    (s .fit, ap (λ (l : Layout). l .«chip_length») (s .same) ∙ c .before .before .before .before .before .pre .2)
 
 same-length : tie.Need-same-length
 same-length c = search needs
@@ -59,7 +58,7 @@ write-damage-requires c κs =
     let o = c .before .before .before .obey-orders in
     let s = stops (c .before .before .before .before .before .before .before .before) in (
       s .fit,
-      ap (λ (l : Layout). l .length) (s .same) ∙ c .before .before .before .before .before .before .before .before .before .before .before .before .pre .2 ∙ sym (ap (λ (l : List ℕ). length l) (o .ensures) ∙ s .long (a .chip .now) (c .before .before .before .before .before .before .before .before .before .before .before .before .pre .2)),
+      ap (λ (l : Layout). l .«chip_length») (s .same) ∙ c .before .before .before .before .before .before .before .before .before .before .before .before .pre .2 ∙ sym (ap (λ (l : List ℕ). length l) (o .ensures) ∙ s .long (a .chip .now) (c .before .before .before .before .before .before .before .before .before .before .before .before .pre .2)),
       ap₂ (λ (l : List Order) (h : List ℕ). cutAllowed l h (a .damage .now)) (s .left) (o .ensures) ∙ sym (asks (c .before .before .before .before .before .before)) ∙ not-false _ (c .before .before .before .before .before .if1 .left),
     )
 

@@ -6,20 +6,15 @@ use mathlib.Core.List.{List}
 use borrow.Author.Needs.{needs}
 use lib.ListN.{length, drop}
 use Rattle.base.specs.Question.{ask}
-use Rattle.chip.specs.Kind.{spi}
-use Rattle.chip.specs.Answers.{layoutOf}
-use Rattle.chip.specs.declared.kind.Layout.{Layout}
+use Rattle.kind.specs.Spi.{spi}
+use Rattle.kind.specs.Layout.{layoutOf}
+use Rattle.bench.specs.Types.{Layout, State, StartAnswer, Started, BenchAnswer, Reached, BenchRefused}
 use Rattle.chip.proofs.Laws.{spi-lawful}
 use Rattle.orders.specs.Orders.{orders}
-use Rattle.updater.specs.Run.{first, fits}
+use Rattle.updater.specs.State.{first, fits}
 use Rattle.starts.specs.Starts.{startAnswer}
 use Rattle.effects.specs.Progress.{chipAfter, stateAt}
 use Rattle.bench.specs.Bench.{cutAllowed, benchAnswer, benchOutput}
-use Rattle.updater.specs.declared.run.State.{State}
-use Rattle.starts.specs.declared.StartAnswer.{StartAnswer}
-use Rattle.starts.specs.declared.StartAnswer.the-variants.{Started}
-use Rattle.bench.specs.declared.BenchAnswer.{BenchAnswer}
-use Rattle.bench.specs.declared.BenchAnswer.the-variants.{Reached, Refused}
 use Rattle.updater.proofs.Laws.{first-fits}
 use Rattle.starts.proofs.Laws.{opened}
 use Rattle.bench.proofs.BenchLaws.{onStart, by-start}
@@ -28,11 +23,11 @@ use Rattle.bench.proofs.cut_run.Tie as tie
 
 -- What is asked of a run that is started, in a layout.
 abbrev cutAnswer : Layout → List ℕ → List ℕ → ℕ → List ℕ → BenchAnswer
-cutAnswer layout chip image cut damage = ask (cutAllowed (drop cut (orders spi layout image)) (chipAfter spi layout image cut chip) damage) (Refused 13 0) (Reached (stateAt layout image cut))
+cutAnswer layout chip image cut damage = ask (cutAllowed (drop cut (orders spi layout image)) (chipAfter spi layout image cut chip) damage) (BenchRefused 13 0) (Reached (stateAt layout image cut))
 
-by-begun : (layout : Layout) (chip image : List ℕ) (cut : ℕ) (damage : List ℕ) (answer : StartAnswer) → startAnswer spi layout image ≡ answer → onStart Refused (cutAnswer layout chip image cut damage) answer ≡ benchAnswer spi layout chip image cut damage
+by-begun : (layout : Layout) (chip image : List ℕ) (cut : ℕ) (damage : List ℕ) (answer : StartAnswer) → startAnswer spi layout image ≡ answer → onStart BenchRefused (cutAnswer layout chip image cut damage) answer ≡ benchAnswer spi layout chip image cut damage
 unfolding benchAnswer
-by-begun layout chip image cut damage answer e = ap (onStart Refused (cutAnswer layout chip image cut damage)) (sym e) ∙ by-start spi Refused (cutAnswer layout chip image cut damage) layout image
+by-begun layout chip image cut damage answer e = ap (onStart BenchRefused (cutAnswer layout chip image cut damage)) (sym e) ∙ by-start spi BenchRefused (cutAnswer layout chip image cut damage) layout image
 
 -- The state of a run that is started: its layout, and that it is the first.
 begun-first : (layout : Layout) (image : List ℕ) (state : State) → startAnswer spi layout image ≡ Started state → (state .layout ≡ layout) × (state ≡ first (state .layout) (length image)) × (fits state (length image) ≡ true)
@@ -56,7 +51,7 @@ enum-known-started c = search needs
 cut-begun-requires : tie.Need-cut-begun-requires
 cut-begun-requires c κs =
     let b = begun-first (c .before .before .before .before .before .layout .result) (c .before .before .before .before .before .before .before .before .before .args .image .now) _ (sym (c .before .before .before .before .start .ensures) ∙ c .before .before .started .given .1) in
-    (b .1, b .2, ap (λ (l : Layout). l .length) (b .0 ∙ c .before .before .before .before .before .layout .ensures))
+    (b .1, b .2, ap (λ (l : Layout). l .«chip_length») (b .0 ∙ c .before .before .before .before .before .layout .ensures))
 
 enum-known-started-2 : tie.Need-enum-known-started-2
 enum-known-started-2 c = search needs

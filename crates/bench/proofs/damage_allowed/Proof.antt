@@ -8,14 +8,12 @@ use borrow.Author.Needs.{needs}
 use borrow.Author.Tests.{lt-ltb, le-ltb}
 use lib.ListN.{length, drop}
 use Rattle.flash.specs.Flash.{erased, span}
-use Rattle.chip.specs.Kind.{spi}
+use Rattle.kind.specs.Spi.{spi}
 use Rattle.orders.specs.Orders.{Order, orders, operationOf}
-use Rattle.updater.specs.Run.{position, running, fits, currentOrder}
+use Rattle.updater.specs.State.{position, running, fits, currentOrder}
 use Rattle.effects.specs.Progress.{chipAfter}
 use Rattle.bench.specs.Bench.{spanAllows, cutAllowed}
-use Rattle.updater.specs.declared.run.State.{State}
-use Rattle.orders.specs.declared.Operation.{Operation}
-use Rattle.orders.specs.declared.Operation.the-variants.{Erase}
+use Rattle.bench.specs.Types.{State, Operation, Erase}
 use Rattle.updater.proofs.Laws.{orders-ended, fits-says, fits-own}
 use Rattle.effects.proofs.Laws.{erase-span, current-within}
 use Rattle.bench.proofs.BenchLaws.{asksOf, LowIsOn, current-low, current-asked}
@@ -40,7 +38,7 @@ enum-known-operation : tie.Need-enum-known-operation
 enum-known-operation c = search needs
 
 -- An erase lies within the chip.
-erase-within : (state : State) (image : List ℕ) (place count : ℕ) → fits state (length image) ≡ true → running state ≡ true → operationOf (currentOrder spi state image) ≡ Erase place count → place + count ≤ state .layout .length
+erase-within : (state : State) (image : List ℕ) (place count : ℕ) → fits state (length image) ≡ true → running state ≡ true → operationOf (currentOrder spi state image) ≡ Erase place count → place + count ≤ state .layout .«chip_length»
 erase-within state image place count f r e =
     let w = current-within state image f r in
     let s = erase-span (currentOrder spi state image) place count e in
@@ -86,7 +84,7 @@ enum-told : tie.Need-enum-told
 enum-told c = search needs
 
 -- What the code asks of an operation is question 10.
-asked-by : (state : State) (image chip damage : List ℕ) (operation : Operation) → fits state (length image) ≡ true → running state ≡ true → state .layout .length ≡ length chip → operationOf (currentOrder spi state image) ≡ operation →
+asked-by : (state : State) (image chip damage : List ℕ) (operation : Operation) → fits state (length image) ≡ true → running state ≡ true → state .layout .«chip_length» ≡ length chip → operationOf (currentOrder spi state image) ≡ operation →
     asksOf operation chip damage ≡ cutAllowed (drop (position state) (orders spi (state .layout) image)) (chipAfter spi (state .layout) image (position state) chip) damage
 asked-by state image chip damage operation f r l e = sym (current-asked state image f r chip damage l ∙ ap (λ (o : Operation). asksOf o chip damage) e)
 

@@ -45,11 +45,10 @@ shared-slice-read-if1-3 c = omega arith
 
 returns : tie.Need-returns Inv-loop μ-loop
 returns c =
-    let others = c .before .before .before .before .before .before .args .others .now in
-    let new = c .before .before .before .before .before .before .args .new .now in
+    let begun = c .before .before .before .before .before .before in
     let i = c .before .before .before .before .before .loop .i in
-    let e = next others new i (c .before .before .before .before .before .before .pre) (omega arith) in
-    let differs : mixes (getD others i 0) 0xFF (getD new i 0) ≡ false = ne-eqb _ _ (c .if1 .taken) in
+    let e = next (begun .args .others .now) (begun .args .new .now) i (begun .pre) (omega arith) in
+    let differs : mixes (getD (begun .args .others .now) i 0) 0xFF (getD (begun .args .new .now) i 0) ≡ false = ne-eqb _ _ (c .if1 .taken) in
     sym (sym (c .before .before .before .before .before .loop .inv .1) ∙ rw differs at e)
 
 add-i : tie.Need-add-i Inv-loop μ-loop
@@ -60,22 +59,20 @@ loop-less c = omega arith
 
 loop-again : tie.Need-loop-again Inv-loop μ-loop
 loop-again c =
-    let others = c .before .before .before .before .before .before .args .others .now in
-    let new = c .before .before .before .before .before .before .args .new .now in
+    let begun = c .before .before .before .before .before .before in
     let i = c .before .before .before .before .before .loop .i in
-    let e = next others new i (c .before .before .before .before .before .before .pre) (omega arith) in
-    let same : mixes (getD others i 0) 0xFF (getD new i 0) ≡ true = eq-eqb _ _ (c .if1 .left) in
+    let e = next (begun .args .others .now) (begun .args .new .now) i (begun .pre) (omega arith) in
+    let same : mixes (getD (begun .args .others .now) i 0) 0xFF (getD (begun .args .new .now) i 0) ≡ true = eq-eqb _ _ (c .if1 .left) in
     (omega arith, rw add-one (sym (rw same at e) ∙ c .before .before .before .before .before .loop .inv .1))
 
 returns-2 : tie.Need-returns-2 Inv-loop μ-loop
 unfolding mixture
 returns-2 c =
-    let others = c .before .before .args .others .now in
-    let new = c .before .before .args .new .now in
+    let begun = c .before .before in
     let i = c .before .loop .i in
-    let all : i ≡ length others = omega arith in
-    let none : drop i others ≡ drop (length others) others = ap (λ (k : ℕ). drop k others) all in
-    sym (ap (λ (l : List ℕ). mixture l (drop i (erased (length others))) (drop i new)) (none ∙ drop-length others)) ∙ c .before .loop .inv .1
+    let all : i ≡ length (begun .args .others .now) = omega arith in
+    let none : drop i (begun .args .others .now) ≡ drop (length (begun .args .others .now)) (begun .args .others .now) = ap (λ (k : ℕ). drop k (begun .args .others .now)) all in
+    sym (ap (λ (l : List ℕ). mixture l (drop i (erased (length (begun .args .others .now)))) (drop i (begun .args .new .now))) (none ∙ drop-length (begun .args .others .now))) ∙ c .before .loop .inv .1
 
 pub mixes-with-erased-spec : {M : Type 1} → statement M
 mixes-with-erased-spec =

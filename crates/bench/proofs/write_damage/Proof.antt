@@ -6,11 +6,11 @@ use borrow.Author.Needs.{needs}
 use borrow.Author.Tests.{lt-ltb, le-ltb}
 use lib.ListN.{length}
 use lib.Seq.{length-take-le}
-use Rattle.chip.specs.Kind.{spi}
+use Rattle.kind.specs.Spi.{spi}
 use Rattle.orders.specs.Orders.{Order, operationOf}
 use Rattle.bench.specs.Bench.{cutIn}
 use Rattle.updater.proofs.Laws.{orders-ended, fits-says, fits-own}
-use Rattle.updater.specs.Run.{currentOrder}
+use Rattle.updater.specs.State.{currentOrder}
 use Rattle.bench.proofs.BenchLaws.{leftBy, Enough, current-left, current-enough}
 use Rattle.bench.proofs.write_damage.Statement.{statement}
 use Rattle.bench.proofs.write_damage.Tie as tie
@@ -32,30 +32,30 @@ the-order c = let a = c .before .before .before .before .before .before .args in
 enum-known-operation : tie.Need-enum-known-operation
 enum-known-operation c = search needs
 
-slice-aggregate-write : tie.Need-slice-aggregate-write
+slice-aggregate-overwrite : tie.Need-slice-aggregate-overwrite
 unfolding Enough
-slice-aggregate-write c =
+slice-aggregate-overwrite c =
     let a = c .before .before .before .before .before .before .before .before .before .before .before .args in
     let p = c .before .before .before .before .before .before .before .before .before .before .before .pre in
     let e = current-enough (a .state) (a .image .now) (p .0) (lt-ltb (a .state .phase) 7 (omega arith)) (a .chip .now) (a .damage .now) (p .1) (p .2) _ (sym (the-order (c .before .before .before .before .before)) ∙ c .before .before .before .operation .given .1) in
     sym (length-take-le (c .before .before .before .operation .given .0 .1 .0) (a .damage .now) e)
 
-write-requires : tie.Need-write-requires
-write-requires c κs = search needs
+overwrite-requires : tie.Need-overwrite-requires
+overwrite-requires c κs = search needs
 
 enum-known-operation-2 : tie.Need-enum-known-operation-2
 enum-known-operation-2 c = search needs
 
-slice-aggregate-write-2 : tie.Need-slice-aggregate-write-2
+slice-aggregate-overwrite-2 : tie.Need-slice-aggregate-overwrite-2
 unfolding Enough
-slice-aggregate-write-2 c =
+slice-aggregate-overwrite-2 c =
     let a = c .before .before .before .before .before .before .before .before .before .before .before .args in
     let p = c .before .before .before .before .before .before .before .before .before .before .before .pre in
     let e = current-enough (a .state) (a .image .now) (p .0) (lt-ltb (a .state .phase) 7 (omega arith)) (a .chip .now) (a .damage .now) (p .1) (p .2) _ (sym (the-order (c .before .before .before .before .before)) ∙ c .before .before .before .operation2 .given .1) in
     sym (length-take-le (c .before .before .before .operation2 .given .0 .1 .0) (a .damage .now) e)
 
-write-requires-2 : tie.Need-write-requires-2
-write-requires-2 c κs = search needs
+overwrite-requires-2 : tie.Need-overwrite-requires-2
+overwrite-requires-2 c κs = search needs
 
 enum-told : tie.Need-enum-told
 enum-told c = search needs
@@ -68,7 +68,7 @@ unfolding leftBy
 returns-2 c =
     let a = c .before .before .before .before .before .before .before .before .before .before .before .before .before .before .args in
     let p = c .before .before .before .before .before .before .before .before .before .before .before .before .before .before .pre in
-    c .before .before .write .ensures
+    c .before .before .overwrite .ensures
     ∙ current-left (a .state) (a .image .now) (p .0) (lt-ltb (a .state .phase) 7 (omega arith)) (a .chip .now) (a .damage .now) (p .1) _ (sym (the-order (c .before .before .before .before .before .before .before .before)) ∙ c .before .before .before .before .before .before .operation .given .1)
 
 same-length-2 : tie.Need-same-length-2
@@ -79,7 +79,7 @@ unfolding leftBy
 returns-3 c =
     let a = c .before .before .before .before .before .before .before .before .before .before .before .before .before .before .args in
     let p = c .before .before .before .before .before .before .before .before .before .before .before .before .before .before .pre in
-    c .before .before .write2 .ensures
+    c .before .before .overwrite2 .ensures
     ∙ current-left (a .state) (a .image .now) (p .0) (lt-ltb (a .state .phase) 7 (omega arith)) (a .chip .now) (a .damage .now) (p .1) _ (sym (the-order (c .before .before .before .before .before .before .before .before)) ∙ c .before .before .before .before .before .before .operation2 .given .1)
 
 returns-4 : tie.Need-returns-4
@@ -96,11 +96,11 @@ write-damage-spec =
     returns
     current-operation-requires
     enum-known-operation
-    slice-aggregate-write
-    write-requires
+    slice-aggregate-overwrite
+    overwrite-requires
     enum-known-operation-2
-    slice-aggregate-write-2
-    write-requires-2
+    slice-aggregate-overwrite-2
+    overwrite-requires-2
     enum-told
     same-length
     returns-2

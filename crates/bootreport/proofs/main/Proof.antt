@@ -1,7 +1,7 @@
 -- `main` is safe: what it prints stands whole in the buffer.
 use mathlib.Core.Path.{sym, _∙_}
 use lib.Seq.{length-take-le}
-use Rattle.filereport.specs.Files.{fileReport}
+use Rattle.filereport.specs.Filereport.{fileReport}
 use Rattle.report.proofs.Laws.{written-within}
 use borrow.Author.Needs.{needs}
 use Rattle.bootreport.proofs.main.Statement.{statement}

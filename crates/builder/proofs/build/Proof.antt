@@ -1,10 +1,10 @@
 -- `builder::build` meets its contract.
 use mathlib.Core.Path.{sym, ap, _∙_}
 use lib.ListN.{length}
+use Rattle.kind.specs.Spi.{spi}
 use Rattle.builder.specs.Builder.{goldenAnswer, buildAnswer, outputOf}
-use Rattle.builder.specs.declared.BuildAnswer.{BuildAnswer}
-use Rattle.builder.specs.declared.BuildAnswer.the-variants.{Refused}
-use Rattle.chip.proofs.Laws.{onLayout, by-layout}
+use Rattle.builder.specs.Types.{BuildAnswer, BuildRefused}
+use Rattle.kind.proofs.Laws.{onLayout, by-layout}
 use Rattle.builder.proofs.BuiltLaws.{build-loads}
 use borrow.Author.Needs.{needs}
 use Rattle.builder.proofs.build.Statement.{statement}
@@ -28,24 +28,20 @@ same-length c = search needs
 returns : tie.Need-returns
 unfolding buildAnswer onLayout
 returns c =
-    let layout = c .before .before .before .before .before .before .before .before .before .args .layout in
-    let golden = c .before .before .before .before .before .before .before .before .before .args .golden .now in
-    let out = c .before .before .before .before .before .before .before .before .before .args .out .now in
+    let begun = c .before .before .before .before .before .before .before .before .before in
     let a = sym (c .before .before .before .before .before .before .check .ensures) ∙ c .before .before .before .before .enum-told .given .1 in
-    let e = rw a at (by-layout Refused (goldenAnswer layout golden (length out)) layout) in
+    let e = rw a at (by-layout BuildRefused (goldenAnswer spi (begun .args .layout) (begun .args .golden .now) (length (begun .args .out .now))) (begun .args .layout)) in
     let r = c .before .before .build-allowed .ensures .0 ∙ e in
-    let o = c .before .before .build-allowed .ensures .1 ∙ ap (λ (a : BuildAnswer). outputOf a layout golden out) e in
-    (r, (o, rw (r, o) (build-loads layout golden out)))
+    let o = c .before .before .build-allowed .ensures .1 ∙ ap (λ (a : BuildAnswer). outputOf spi a (begun .args .layout) (begun .args .golden .now) (begun .args .out .now)) e in
+    (r, (o, rw (r, o) (build-loads (begun .args .layout) (begun .args .golden .now) (begun .args .out .now))))
 
 returns-2 : tie.Need-returns-2
 unfolding buildAnswer onLayout outputOf
 returns-2 c =
-    let layout = c .before .before .before .before .before .before .args .layout in
-    let golden = c .before .before .before .before .before .before .args .golden .now in
-    let out = c .before .before .before .before .before .before .args .out .now in
+    let begun = c .before .before .before .before .before .before in
     let a = sym (c .before .before .before .check .ensures) ∙ c .before .allowed .given .1 in
-    let e = rw a at (by-layout Refused (goldenAnswer layout golden (length out)) layout) in
-    (e, (ap (λ (a : BuildAnswer). outputOf a layout golden out) e, rw (sym e) at (build-loads layout golden out)))
+    let e = rw a at (by-layout BuildRefused (goldenAnswer spi (begun .args .layout) (begun .args .golden .now) (length (begun .args .out .now))) (begun .args .layout)) in
+    (e, (ap (λ (a : BuildAnswer). outputOf spi a (begun .args .layout) (begun .args .golden .now) (begun .args .out .now)) e, rw (sym e) at (build-loads (begun .args .layout) (begun .args .golden .now) (begun .args .out .now))))
 
 pub build-spec : {M : Type 1} → statement M
 build-spec =

@@ -41,11 +41,11 @@ all-erased-requires c κs = search needs
 returns-2 : tie.Need-returns-2
 returns-2 c t =
     let bytes = c .before .before .before .before .before .before .before .args .bytes .now in
-    let must = c .before .before .before .before .before .before .before .args .must .now in
-    let n : length must - 0 ≡ length must = omega arith in
+    let expected = c .before .before .before .before .before .before .before .args .expected .now in
+    let n : length expected - 0 ≡ length expected = omega arith in
     let front = rw n at (c .before .before .before .same .ensures (not-false _ (c .before .before .if1 .left))) in
-    let whole = take-all (length bytes - length must) (drop (length must) bytes) (omega (arith, length-drop (length must) bytes)) in
-    filled-parts bytes must front (rw (whole, length-drop) at (c .all-erased .ensures t))
+    let whole = take-all (length bytes - length expected) (drop (length expected) bytes) (omega (arith, length-drop (length expected) bytes)) in
+    filled-parts bytes expected front (rw (whole, length-drop) at (c .all-erased .ensures t))
 
 pub agree-spec : {M : Type 1} → statement M
 agree-spec =

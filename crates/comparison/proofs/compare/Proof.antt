@@ -1,7 +1,8 @@
 -- `run::compare` meets its contract: bytes that agree differ nowhere.
 use mathlib.Core.Path.{sym, ap, _∙_}
 use borrow.Author.Needs.{needs}
-use Rattle.comparison.specs.Comparison.{differs, comparison}
+use Rattle.comparison.specs.Comparison.{differs}
+use Rattle.comparison.specs.Internal.{comparison}
 use Rattle.comparison.proofs.ComparisonLaws.{differs-none}
 use Rattle.comparison.proofs.compare.Statement.{statement}
 use Rattle.comparison.proofs.compare.Tie as tie

@@ -3,7 +3,7 @@ use mathlib.Core.Path.{sym, _∙_}
 use native.Mathlib.Omega.{arith}
 use borrow.Author.Needs.{needs}
 use lib.ListN.{length-drop}
-use Rattle.configreader.specs.Reading.{jump}
+use Rattle.configreader.specs.Configreader.{jump}
 use Rattle.framing.proofs.Laws.{find-within}
 use Rattle.configreader.proofs.ReadingLaws.{read-ended, read-jump, read-fault, read-short, search-found, search-none, jump-none, jump-far, jump-on}
 use Prim.Native.Nat.{ℕ, _+_, _*_, _<_}

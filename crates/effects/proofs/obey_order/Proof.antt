@@ -6,14 +6,13 @@ use mathlib.Core.List.{List}
 use native.Mathlib.Omega.{arith}
 use lib.ListN.{length, take}
 use lib.Seq.{length-take-le}
-use Rattle.chip.specs.Layout.{page}
-use Rattle.flash.specs.Flash.{within, afterProgram}
-use Rattle.chip.specs.Kind.{spi}
+use Rattle.kind.specs.Layout.{page}
+use Rattle.flash.specs.Flash.{overwriteInRange, afterProgram}
+use Rattle.kind.specs.Spi.{spi}
 use Rattle.orders.specs.Orders.{operationOf, programmed, orderBytes}
-use Rattle.updater.specs.Run.{running, fits, currentOrder}
-use Rattle.updater.specs.declared.run.State.{State}
-use Rattle.orders.specs.declared.Operation.the-variants.{Program}
-use Rattle.comparison.proofs.Laws.{filled-length}
+use Rattle.updater.specs.State.{running, fits, currentOrder}
+use Rattle.effects.specs.Types.{State, Program}
+use Rattle.comparison.proofs.Laws.{padded-length}
 use Rattle.updater.proofs.Laws.{fits-says, fits-own}
 use Rattle.effects.proofs.ProgressLaws.{doneBy, program-count, current-most, current-done}
 use borrow.Author.Needs.{needs}
@@ -47,7 +46,7 @@ page-of : (state : State) (image bytes : List ℕ) (place count : ℕ) → fits 
 page-of state image bytes place count f r e b =
     let m = current-most state image f r in
     let n = program-count (currentOrder spi state image) place count e in
-    (omega arith, ap (λ (l : List ℕ). length l) b ∙ filled-length page (programmed (currentOrder spi state image)) m)
+    (omega arith, ap (λ (l : List ℕ). length l) b ∙ padded-length page (programmed (currentOrder spi state image)) m)
 
 array-share-prefix-bytes : tie.Need-array-share-prefix-bytes
 array-share-prefix-bytes c =
@@ -91,7 +90,7 @@ returns-2 c =
     let place : ℕ = c .before .before .before .before .before .before .before .operation2 .given .0 .0 in
     let count : ℕ = c .before .before .before .before .before .before .before .operation2 .given .0 .1 .0 in
     c .before .before .program .ensures
-    ∙ ap (λ (l : List ℕ). within (a .chip .now) place (length (take count l)) (afterProgram (a .chip .now) place (take count l))) (c .before .before .before .before .before .current-bytes .ensures)
+    ∙ ap (λ (l : List ℕ). overwriteInRange (a .chip .now) place (length (take count l)) (afterProgram (a .chip .now) place (take count l))) (c .before .before .before .before .before .current-bytes .ensures)
     ∙ current-done (a .state) (a .image .now) (p .0) (p .1) (a .chip .now) (p .2) _ (sym (the-order (c .before .before .before .before .before .before .before .before .before)) ∙ c .before .before .before .before .before .before .before .operation2 .given .1)
 
 returns-3 : tie.Need-returns-3

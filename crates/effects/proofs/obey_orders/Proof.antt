@@ -6,13 +6,12 @@ use mathlib.Core.List.{List}
 use native.Mathlib.Omega.{arith}
 use borrow.Author.Tests.{lt-ltb, le-ltb}
 use lib.ListN.{length}
-use Rattle.chip.specs.Kind.{spi}
-use Rattle.chip.specs.declared.kind.Layout.{Layout}
+use Rattle.kind.specs.Spi.{spi}
+use Rattle.effects.specs.Types.{Layout, State}
 use Rattle.chip.proofs.Laws.{spi-lawful}
-use Rattle.updater.specs.Run.{fits, currentOrder}
+use Rattle.updater.specs.State.{fits, currentOrder}
 use Rattle.effects.specs.Effects.{obeyed, obeyedAll}
 use Rattle.effects.specs.Progress.{chipAfter}
-use Rattle.updater.specs.declared.run.State.{State}
 use Rattle.updater.proofs.Laws.{fits-own}
 use Rattle.effects.proofs.ProgressLaws.{Reaches, reaches-first, reaches-next, reaches-ended, reaches-most, chip-next, chip-all, chip-length}
 use Rattle.effects.proofs.obey_orders.Statement.{statement}
@@ -54,7 +53,7 @@ obey-order-requires : tie.Need-obey-order-requires Inv-loop μ-loop
 obey-order-requires c κs =
     let l = c .before .before .before .before .loop in
     let r = l .inv .1 in
-    (r .fit, lt-ltb (l .state .phase) 7 (omega arith), ap (λ (x : Layout). x .length) (r .same) ∙ c .before .before .before .before .before .before .before .pre .2 ∙ sym (kept (c .before .before .before .before)))
+    (r .fit, lt-ltb (l .state .phase) 7 (omega arith), ap (λ (x : Layout). x .«chip_length») (r .same) ∙ c .before .before .before .before .before .before .before .pre .2 ∙ sym (kept (c .before .before .before .before)))
 
 after-order-requires : tie.Need-after-order-requires Inv-loop μ-loop
 after-order-requires c κs =

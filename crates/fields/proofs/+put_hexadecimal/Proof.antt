@@ -1,6 +1,6 @@
 -- The proof of the call of `fields::put_hexadecimal` by itself: the count falls.
 use Rattle.fields.proofs.FieldLaws.{put-digit}
-use Rattle.fields.specs.Fields.{hexadecimal}
+use Rattle.digits.specs.Digit.{hexadecimal}
 use lib.Seq.{paste, paste-zero}
 use lib.ListN.{set}
 use borrow.Author.Needs.{needs}
@@ -12,7 +12,7 @@ use borrow.Fn.PlainCycle.{Measures, is, falls, and}
 use Rattle.fields.proofs.put_hexadecimal.Reads as put-hexadecimal
 use Rattle.fields.proofs.put_hexadecimal.Kinds as put-hexadecimal-kinds
 use Rattle.fields.proofs.+put_hexadecimal.Lts-put_hexadecimal as put-hexadecimal-lts
-use Rattle.fields.proofs.digit.Reads as digit-reads
+use Rattle.digits.proofs.digit.digit_character.Reads as digit-reads
 use Rattle.fields.proofs.+put_hexadecimal.{statement}
 use Rattle.fields.proofs.+put_hexadecimal.Tie.{close}
 
@@ -64,7 +64,7 @@ put-hexadecimal-put-hexadecimal-requires :
     ) (put-hexadecimal-at t) put-hexadecimal.Post
 put-hexadecimal-put-hexadecimal-requires t c κs = omega arith
 
-put-hexadecimal-digit-requires : (t : ℕ) → put-hexadecimal-lts.Need-digit-requires (
+put-hexadecimal-digit-requires : (t : ℕ) → put-hexadecimal-lts.Need-digit-character-requires (
   put-hexadecimal-below t,
   put-hexadecimal.Post,
   digit-reads.Asked,
@@ -108,7 +108,7 @@ put-hexadecimal-returns-2 t c =
     let at = c .before .before .before .before .before .before .before .args .at in
     let count = c .before .before .before .before .before .before .before .args .count in
     let value = c .before .before .before .before .before .before .before .args .value in
-    ap (λ (x : ℕ). set mid (at + (count - 1)) x) (c .digit .ensures) ∙ put-digit out mid at count value (c .before .before .before .before .before .if1 .left) (omega arith) (c .before .before .before .put-hexadecimal .ensures)
+    ap (λ (x : ℕ). set mid (at + (count - 1)) x) (c .digit-character .ensures) ∙ put-digit out mid at count value (c .before .before .before .before .before .if1 .left) (omega arith) (c .before .before .before .put-hexadecimal .ensures)
 
 pub +put-hexadecimal-spec : {M : Type 1} → statement M
 +put-hexadecimal-spec = close μ-put-hexadecimal λ t. put-hexadecimal-lts.spec (

@@ -1,7 +1,7 @@
 -- `fields::put_hexadecimal_field` meets its contract.
 use Rattle.fields.proofs.PutLaws.{Put, put-byte}
 use Rattle.fields.proofs.FieldLaws.{length-hexadecimal}
-use Rattle.fields.specs.Fields.{hexadecimal}
+use Rattle.digits.specs.Digit.{hexadecimal}
 use native.Mathlib.Omega.{arith}
 use borrow.Author.Needs.{needs}
 use Rattle.fields.proofs.put_hexadecimal_field.Statement.{statement}

@@ -3,7 +3,10 @@ use mathlib.Core.Path.{sym, ap, _∙_}
 use mathlib.Core.List.{List}
 use Prim.Native.Nat.{ℕ}
 use lib.ListN.{length}
-use Rattle.report.specs.Answers.{written, filledBy, chipAnswer, chipOutput}
+use Rattle.kind.specs.Spi.{spi}
+use Rattle.report.specs.Refusal.{written}
+use Rattle.base.specs.Output.{frontFilled}
+use Rattle.report.specs.Boot.{chipAnswer, chipOutput}
 use Rattle.filereport.proofs.FileLaws.{shows-built, shows-refused}
 use borrow.Author.Needs.{needs}
 use Rattle.filereport.proofs.built_report.Statement.{statement}
@@ -41,15 +44,14 @@ same-length c = search needs
 
 returns : tie.Need-returns
 returns c =
-    let golden = c .before .before .before .before .before .before .before .before .before .before .before .before .before .before .args .golden .now in
-    let out = c .before .before .before .before .before .before .before .before .before .before .before .before .before .before .args .out .now in
+    let begun = c .before .before .before .before .before .before .before .before .before .before .before .before .before .before in
     let buffer = c .before .before .before .before .before .before .before .before .before .before .before .buffer .result in
     let long = sym (c .before .before .before .before .before .before .before .before .before .before .before .buffer .ensures) in
     let e = rw (c .before .before .before .before .before .before .before .before .before .before .layout .ensures) at (sym (c .before .before .before .before .before .before .before .before .build .ensures .0) ∙ c .before .before .before .before .before .enum-told .given .1) in
     let chip = rw (c .before .before .before .before .before .before .before .before .before .before .layout .ensures) at (c .before .before .before .before .before .before .before .before .build .ensures .1 .0) in
-    let shown = shows-built golden buffer long e (length out) out in (
-      c .before .before .report .ensures .0 ∙ ap (λ (l : List ℕ). chipAnswer l (length out)) chip ∙ shown .0,
-      c .before .before .report .ensures .1 ∙ ap (λ (l : List ℕ). chipOutput l out) chip ∙ shown .1,
+    let shown = shows-built (begun .args .golden .now) buffer long e (length (begun .args .out .now)) (begun .args .out .now) in (
+      c .before .before .report .ensures .0 ∙ ap (λ (l : List ℕ). chipAnswer spi l (length (begun .args .out .now))) chip ∙ shown .0,
+      c .before .before .report .ensures .1 ∙ ap (λ (l : List ℕ). chipOutput spi l (begun .args .out .now)) chip ∙ shown .1,
     )
 
 same-length-2 : tie.Need-same-length-2
@@ -57,14 +59,13 @@ same-length-2 c = search needs
 
 returns-2 : tie.Need-returns-2
 returns-2 c =
-    let golden = c .before .before .before .before .before .before .before .before .before .before .before .before .before .before .args .golden .now in
-    let out = c .before .before .before .before .before .before .before .before .before .before .before .before .before .before .args .out .now in
+    let begun = c .before .before .before .before .before .before .before .before .before .before .before .before .before .before in
     let buffer = c .before .before .before .before .before .before .before .before .before .before .before .buffer .result in
     let long = sym (c .before .before .before .before .before .before .before .before .before .before .before .buffer .ensures) in
     let e = rw (c .before .before .before .before .before .before .before .before .before .before .layout .ensures) at (sym (c .before .before .before .before .before .before .before .before .build .ensures .0) ∙ c .before .before .before .before .before .built .given .1) in
-    let line = sym (shows-refused golden buffer long _ _ e) in (
-      c .before .before .report2 .ensures .0 ∙ ap (λ (l : List ℕ). written l (length out)) line,
-      c .before .before .report2 .ensures .1 ∙ ap (λ (l : List ℕ). filledBy l out) line,
+    let line = sym (shows-refused (begun .args .golden .now) buffer long _ _ e) in (
+      c .before .before .report2 .ensures .0 ∙ ap (λ (l : List ℕ). written l (length (begun .args .out .now))) line,
+      c .before .before .report2 .ensures .1 ∙ ap (λ (l : List ℕ). frontFilled l (begun .args .out .now)) line,
     )
 
 pub built-report-spec : {M : Type 1} → statement M

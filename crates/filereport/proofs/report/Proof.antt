@@ -6,8 +6,9 @@ use native.Mathlib.Omega.{arith}
 use lib.ListN.{length, take}
 use lib.Seq.{length-take-le}
 use Rattle.mcs.proofs.Laws.{read-says, refused-says}
-use Rattle.filereport.specs.Files.{builtReport}
-use Rattle.report.specs.Answers.{written, filledBy}
+use Rattle.filereport.specs.Filereport.{builtReport}
+use Rattle.report.specs.Refusal.{written}
+use Rattle.base.specs.Output.{frontFilled}
 use Rattle.filereport.proofs.FileLaws.{reports-long, reports-image, reports-refused}
 use borrow.Author.Needs.{needs}
 use Rattle.filereport.proofs.report.Statement.{statement}
@@ -21,11 +22,10 @@ same-length c = search needs
 
 returns : tie.Need-returns
 returns c =
-    let text = c .before .before .before .before .before .before .before .args .text .now in
-    let out = c .before .before .before .before .before .before .before .args .out .now in
-    let line = sym (reports-long text (omega arith)) in (
-      c .before .before .report .ensures .0 ∙ ap (λ (l : List ℕ). written l (length out)) line,
-      c .before .before .report .ensures .1 ∙ ap (λ (l : List ℕ). filledBy l out) line,
+    let begun = c .before .before .before .before .before .before .before in
+    let line = sym (reports-long (begun .args .text .now) (omega arith)) in (
+      c .before .before .report .ensures .0 ∙ ap (λ (l : List ℕ). written l (length (begun .args .out .now))) line,
+      c .before .before .report .ensures .1 ∙ ap (λ (l : List ℕ). frontFilled l (begun .args .out .now)) line,
     )
 
 buffer-requires : tie.Need-buffer-requires
@@ -75,7 +75,7 @@ returns-2 c =
     let image = ap (λ (l : List ℕ). take (c .before .before .before .before .before .before .held .given .0 .0) l) (c .before .before .before .before .before .before .before .before .before .read .ensures .1) ∙ says .1 .1 .1 in
     let line = ap (λ (l : List ℕ). builtReport l) image ∙ sym (reports-image text (says .0) (omega arith) (says .1 .0)) in (
       c .before .before .built-report .ensures .0 ∙ ap (λ (l : List ℕ). written l (length out)) line,
-      c .before .before .built-report .ensures .1 ∙ ap (λ (l : List ℕ). filledBy l out) line,
+      c .before .before .built-report .ensures .1 ∙ ap (λ (l : List ℕ). frontFilled l out) line,
     )
 
 same-length-3 : tie.Need-same-length-3
@@ -83,14 +83,13 @@ same-length-3 c = search needs
 
 returns-3 : tie.Need-returns-3
 returns-3 c =
-    let text = c .before .before .before .before .before .before .before .before .before .before .before .before .before .before .args .text .now in
-    let out = c .before .before .before .before .before .before .before .before .before .before .before .before .before .before .args .out .now in
+    let begun = c .before .before .before .before .before .before .before .before .before .before .before .before .before .before in
     let buffer = c .before .before .before .before .before .before .before .before .before .before .buffer .result in
     let long : 32768 ≡ length buffer = c .before .before .before .before .before .before .before .before .before .before .buffer .ensures in
-    let e = refused-says text buffer _ _ (sym (c .before .before .before .before .before .before .before .before .read .ensures .0) ∙ c .before .before .before .before .before .held2 .given .1) (omega arith) in
-    let line = sym (reports-refused text _ _ (omega arith) e) in (
-      c .before .before .report2 .ensures .0 ∙ ap (λ (l : List ℕ). written l (length out)) line,
-      c .before .before .report2 .ensures .1 ∙ ap (λ (l : List ℕ). filledBy l out) line,
+    let e = refused-says (begun .args .text .now) buffer _ _ (sym (c .before .before .before .before .before .before .before .before .read .ensures .0) ∙ c .before .before .before .before .before .held2 .given .1) (omega arith) in
+    let line = sym (reports-refused (begun .args .text .now) _ _ (omega arith) e) in (
+      c .before .before .report2 .ensures .0 ∙ ap (λ (l : List ℕ). written l (length (begun .args .out .now))) line,
+      c .before .before .report2 .ensures .1 ∙ ap (λ (l : List ℕ). frontFilled l (begun .args .out .now)) line,
     )
 
 pub report-spec : {M : Type 1} → statement M

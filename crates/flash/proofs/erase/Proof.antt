@@ -9,8 +9,8 @@ use borrow.Author.Tests.{not-true, not-false, leb-true}
 use lib.ListN.{length, getD, getD-replicate}
 use lib.Seq.{paste, paste-zero, paste-suc, length-paste}
 use Rattle.base.specs.Question.{ask}
-use Rattle.flash.specs.Flash.{erased, within}
-use Rattle.flash.proofs.FlashLaws.{paste-over, within-over, erased-length}
+use Rattle.flash.specs.Flash.{erased, overwriteInRange}
+use Rattle.flash.proofs.FlashLaws.{paste-over, in-range, erased-length}
 use Rattle.flash.proofs.erase.Statement.{statement}
 use Rattle.flash.proofs.erase.Tie as tie
 
@@ -24,7 +24,7 @@ lies-within-requires : tie.Need-lies-within-requires Inv-loop μ-loop
 lies-within-requires c κs = search needs
 
 returns : tie.Need-returns Inv-loop μ-loop
-unfolding within ask
+unfolding overwriteInRange ask
 returns c = rw (sym (c .before .lies-within .ensures) ∙ not-true _ (c .if1 .taken)) refl
 
 -- The span lies within the chip,
@@ -34,12 +34,10 @@ fits c = leb-true _ _ (sym (c .before .lies-within .ensures) ∙ not-false _ (c 
 -- whose length stays.
 kept : (c : tie.At-loop Inv-loop μ-loop) → length (c .loop .chip) ≡ length (c .before .before .before .before .args .chip .now)
 kept c =
-    let chip = c .before .before .before .before .args .chip .now in
-    let place = c .before .before .before .before .args .place in
-    let count = c .before .before .before .before .args .count in
-    let n = erased-length count in
+    let begun = c .before .before .before .before in
+    let n = erased-length (begun .args .count) in
     let f = fits (c .before) in
-    ap (λ (l : List ℕ). length l) (c .loop .inv .1) ∙ length-paste chip place (erased count) (c .loop .i) (omega arith) (omega arith)
+    ap (λ (l : List ℕ). length l) (c .loop .inv .1) ∙ length-paste (begun .args .chip .now) (begun .args .place) (erased (begun .args .count)) (c .loop .i) (omega arith) (omega arith)
 
 loop-holds : tie.Need-loop-holds Inv-loop μ-loop
 loop-holds c = (omega arith, paste-zero (c .before .before .before .args .chip .now) (c .before .before .before .args .place) (erased (c .before .before .before .args .count)))
@@ -58,26 +56,22 @@ loop-less c = omega arith
 
 loop-again : tie.Need-loop-again Inv-loop μ-loop
 loop-again c =
-    let chip = c .before .before .before .before .before .args .chip .now in
-    let place = c .before .before .before .before .before .args .place in
-    let count = c .before .before .before .before .before .args .count in
+    let begun = c .before .before .before .before .before in
     let i = c .before .loop .i in
-    let n = erased-length count in
+    let n = erased-length (begun .args .count) in
     let f = fits (c .before .before) in
-    let v : getD (erased count) i 0 ≡ 0xFF = getD-replicate count i 0xFF 0 (omega arith) in
-    (omega arith, rw (c .before .loop .inv .1, add-one) (rw v at (paste-suc chip place (erased count) i 0 (omega arith) (omega arith))))
+    let v : getD (erased (begun .args .count)) i 0 ≡ 0xFF = getD-replicate (begun .args .count) i 0xFF 0 (omega arith) in
+    (omega arith, rw (c .before .loop .inv .1, add-one) (rw v at (paste-suc (begun .args .chip .now) (begun .args .place) (erased (begun .args .count)) i 0 (omega arith) (omega arith))))
 
 same-length : tie.Need-same-length Inv-loop μ-loop
 same-length c = kept (c .before)
 
 returns-2 : tie.Need-returns-2 Inv-loop μ-loop
 returns-2 c =
-    let chip = c .before .before .before .before .before .args .chip .now in
-    let place = c .before .before .before .before .before .args .place in
-    let count = c .before .before .before .before .before .args .count in
-    let n = erased-length count in
-    let e : c .before .loop .i ≡ length (erased count) = omega arith in
-    rw e at (c .before .loop .inv .1) ∙ paste-over chip place (erased count) ∙ sym (within-over chip place count (erased count) (fits (c .before .before)))
+    let begun = c .before .before .before .before .before in
+    let n = erased-length (begun .args .count) in
+    let e : c .before .loop .i ≡ length (erased (begun .args .count)) = omega arith in
+    rw e at (c .before .loop .inv .1) ∙ paste-over (begun .args .chip .now) (begun .args .place) (erased (begun .args .count)) ∙ sym (in-range (begun .args .chip .now) (begun .args .place) (begun .args .count) (erased (begun .args .count)) (fits (c .before .before)))
 
 pub erase-spec : {M : Type 1} → statement M
 erase-spec =

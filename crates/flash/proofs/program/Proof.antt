@@ -11,8 +11,8 @@ use lib.Bits.{bitAnd}
 use lib.ListN.{length, getD, set}
 use lib.Seq.{paste, paste-zero, paste-suc, length-paste, drop-paste, getD-drop}
 use Rattle.base.specs.Question.{ask}
-use Rattle.flash.specs.Flash.{span, within, afterProgram}
-use Rattle.flash.proofs.FlashLaws.{span-at, span-length, paste-over, within-over, cleared-length, cleared-at}
+use Rattle.flash.specs.Flash.{span, overwriteInRange, afterProgram}
+use Rattle.flash.proofs.FlashLaws.{span-at, span-length, paste-over, in-range, cleared-length, cleared-at}
 use Rattle.flash.proofs.program.Statement.{statement}
 use Rattle.flash.proofs.program.Tie as tie
 
@@ -26,7 +26,7 @@ lies-within-requires : tie.Need-lies-within-requires Inv-loop μ-loop
 lies-within-requires c κs = search needs
 
 returns : tie.Need-returns Inv-loop μ-loop
-unfolding within ask
+unfolding overwriteInRange ask
 returns c = rw (sym (c .before .lies-within .ensures) ∙ not-true _ (c .if1 .taken)) refl
 
 -- The span lies within the chip,
@@ -40,12 +40,10 @@ programmed-length chip place bytes f = cleared-length (span chip place (length b
 -- the chip's length stays,
 kept : (c : tie.At-loop Inv-loop μ-loop) → length (c .loop .chip) ≡ length (c .before .before .before .before .before .args .chip .now)
 kept c =
-    let chip = c .before .before .before .before .before .args .chip .now in
-    let place = c .before .before .before .before .before .args .place in
-    let bytes = c .before .before .before .before .before .args .bytes .now in
+    let begun = c .before .before .before .before .before in
     let f = fits (c .before) in
-    let n = programmed-length chip place bytes f in
-    ap (λ (l : List ℕ). length l) (c .loop .inv .1) ∙ length-paste chip place (afterProgram chip place bytes) (c .loop .i) (omega arith) (omega arith)
+    let n = programmed-length (begun .args .chip .now) (begun .args .place) (begun .args .bytes .now) f in
+    ap (λ (l : List ℕ). length l) (c .loop .inv .1) ∙ length-paste (begun .args .chip .now) (begun .args .place) (afterProgram (begun .args .chip .now) (begun .args .place) (begun .args .bytes .now)) (c .loop .i) (omega arith) (omega arith)
 
 -- and the byte that is programmed next is the chip's own.
 next : (chip : List ℕ) (place : ℕ) (bytes : List ℕ) (i : ℕ) → place + length bytes ≤ length chip → i < length bytes →
@@ -60,9 +58,8 @@ next chip place bytes i f h =
 
 loop-holds : tie.Need-loop-holds Inv-loop μ-loop
 loop-holds c =
-    let chip = c .before .before .before .before .args .chip .now in
-    let place = c .before .before .before .before .args .place in
-    (omega arith, paste-zero chip place (afterProgram chip place (c .before .before .before .before .args .bytes .now)))
+    let begun = c .before .before .before .before in
+    (omega arith, paste-zero (begun .args .chip .now) (begun .args .place) (afterProgram (begun .args .chip .now) (begun .args .place) (c .before .before .before .before .args .bytes .now)))
 
 add-chip : tie.Need-add-chip Inv-loop μ-loop
 add-chip c = let f = fits (c .before .before) in omega arith
@@ -87,16 +84,14 @@ loop-less c = omega arith
 
 loop-again : tie.Need-loop-again Inv-loop μ-loop
 loop-again c =
-    let chip = c .before .before .before .before .before .before .before .before .args .chip .now in
-    let place = c .before .before .before .before .before .before .before .before .args .place in
-    let bytes = c .before .before .before .before .before .before .before .before .args .bytes .now in
+    let begun = c .before .before .before .before .before .before .before .before in
     let i = c .before .before .before .loop .i in
     let f = fits (c .before .before .before .before) in
-    let n = programmed-length chip place bytes f in (
+    let n = programmed-length (begun .args .chip .now) (begun .args .place) (begun .args .bytes .now) f in (
       omega arith,
       rw (c .before .before .before .loop .inv .1, add-one)
-          (ap (λ (byte : ℕ). set (paste chip place (afterProgram chip place bytes) i) (place + i) byte) (next chip place bytes i f (omega arith))
-          ∙ paste-suc chip place (afterProgram chip place bytes) i 0 (omega arith) (omega arith)),
+          (ap (λ (byte : ℕ). set (paste (begun .args .chip .now) (begun .args .place) (afterProgram (begun .args .chip .now) (begun .args .place) (begun .args .bytes .now)) i) ((begun .args .place) + i) byte) (next (begun .args .chip .now) (begun .args .place) (begun .args .bytes .now) i f (omega arith))
+          ∙ paste-suc (begun .args .chip .now) (begun .args .place) (afterProgram (begun .args .chip .now) (begun .args .place) (begun .args .bytes .now)) i 0 (omega arith) (omega arith)),
     )
 
 same-length : tie.Need-same-length Inv-loop μ-loop
@@ -104,13 +99,11 @@ same-length c = kept (c .before)
 
 returns-2 : tie.Need-returns-2 Inv-loop μ-loop
 returns-2 c =
-    let chip = c .before .before .before .before .before .before .args .chip .now in
-    let place = c .before .before .before .before .before .before .args .place in
-    let bytes = c .before .before .before .before .before .before .args .bytes .now in
+    let begun = c .before .before .before .before .before .before in
     let f = fits (c .before .before) in
-    let n = programmed-length chip place bytes f in
-    let e : c .before .loop .i ≡ length (afterProgram chip place bytes) = omega arith in
-    rw e at (c .before .loop .inv .1) ∙ paste-over chip place (afterProgram chip place bytes) ∙ sym (within-over chip place (length bytes) (afterProgram chip place bytes) f)
+    let n = programmed-length (begun .args .chip .now) (begun .args .place) (begun .args .bytes .now) f in
+    let e : c .before .loop .i ≡ length (afterProgram (begun .args .chip .now) (begun .args .place) (begun .args .bytes .now)) = omega arith in
+    rw e at (c .before .loop .inv .1) ∙ paste-over (begun .args .chip .now) (begun .args .place) (afterProgram (begun .args .chip .now) (begun .args .place) (begun .args .bytes .now)) ∙ sym (in-range (begun .args .chip .now) (begun .args .place) (length (begun .args .bytes .now)) (afterProgram (begun .args .chip .now) (begun .args .place) (begun .args .bytes .now)) f)
 
 pub program-spec : {M : Type 1} → statement M
 program-spec =

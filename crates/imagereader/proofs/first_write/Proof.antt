@@ -42,12 +42,12 @@ use denote.Triple.Table.{entered, cited}
 use denote.Triple.Walked.{says, Stays, stay-none-slice, walkOf, goes-none-slice, Walks, ends-at, walked, walk-meets}
 use denote.Exit.{yes}
 use denote.Triple.Clauses.{ensured, lasts}
-use Rattle.bootreader.specs.Answers.{imageWrite}
-use Rattle.packets.specs.declared.trace.WriteAnswer.{WriteAnswer}
+use Rattle.kind.specs.Spi.{spi}
+use Rattle.bootreader.specs.Image.{imageWrite}
+use Rattle.imagereader.specs.Types.{WriteAnswer, Reader}
 use Rattle.packets.proofs.trace.WriteAnswer as S
 use Rattle.packets.proofs.trace.WriteAnswer.Laws as S′
-use Rattle.imagereader.specs.Reader.{takenBy, readerAt, moved, nthNext}
-use Rattle.imagereader.specs.declared.Reader.{Reader}
+use Rattle.imagereader.specs.Imagereader.{nextOf, readerAt, readerAfter, nthNext}
 use Rattle.imagereader.proofs.Laws.{reads}
 use Rattle.imagereader.proofs.Shared.{slice, Own, passes-on}
 use Rattle.imagereader.proofs.Reader as T
@@ -92,7 +92,7 @@ module _ {M : Type 1} (𝓤 : URA M) (H : Heap 𝓤) (A : Atoms 𝓤) (W : Given
   h = readerAt s
 
   abbrev found : WriteAnswer
-  found = takenBy h .answer
+  found = nextOf h .answer
 
   abbrev Post : Val → SProp 𝓤
   Post = walkOf 𝓤 H A first-write.ended stayed (first-write.clauses 𝓤 H A mem″ run) .post (((κ, tt), (q, tt), tt, (s, tt), (slice s ∷ [], tt)), tt)
@@ -136,14 +136,14 @@ module _ {M : Type 1} (𝓤 : URA M) (H : Heap 𝓤) (A : Atoms 𝓤) (W : Given
         qed W (‵ (flft within (PosShare·left q)) ∷ ‵ (flft κ (PosShare·right q)) ∷ ‵ OwnRef ∷ []) ∵ nothing ! $ move ! (3 ∷ 0 ∷ []) $ fjoin ! $ nothing ! $
         move ! (3 ∷ 0 ∷ []) $ join ! $ move ! (2 ∷ 0 ∷ []) $ join ! $ join ! $ frame ! $ done !
 
-  exits : (r : WriteAnswer) (u : Val) → r ≡ imageWrite (now s) 0 → ent 𝓤 (⋆ 𝓤 H A (‵ (S.the-row .own r (u ∷ [])) ∷ ‵ (flft κ q) ∷ ‵ (Own κ s) ∷ [])) (Post u)
+  exits : (r : WriteAnswer) (u : Val) → r ≡ imageWrite spi (now s) 0 → ent 𝓤 (⋆ 𝓤 H A (‵ (S.the-row .own r (u ∷ [])) ∷ ‵ (flft κ q) ∷ ‵ (Own κ s) ∷ [])) (Post u)
   exits r u e =
       qed W (‵ (S.the-row .own r (u ∷ [])) ∷ ‵ (flft κ q) ∷ ‵ (Own κ s) ∷ []) ∵
       suffices ! _ (ends-at 𝓤 H A first-write.ended stayed (first-write.clauses 𝓤 H A mem″ run) W (((κ, tt), (q, tt), tt, (s, tt), (slice s ∷ [], tt)), tt) u r (tt, tt) (tt, tt)) $ says ! e $
       nothing ! $ move ! (2 ∷ 0 ∷ []) $ join ! $ frame ! $ nothing ! $ move ! (2 ∷ 0 ∷ []) $ fjoin ! $ frame ! $ done !
 
   -- what the first call gives is the first write
-  first : found ≡ imageWrite (now s) 0
+  first : found ≡ imageWrite spi (now s) 0
   unfolding nthNext
   first = reads s zero
 
@@ -170,8 +170,8 @@ module _ {M : Type 1} (𝓤 : URA M) (H : Heap 𝓤) (A : Atoms 𝓤) (W : Given
         move ! (0 ∷ 2 ∷ 4 ∷ []) $ use3 W (raw (Next 𝓤 H A mem″ run .pre (to-next l₂ a γ))) (goes-next l₂ a γ) $
         calls-at ! fm (Next 𝓤 H A mem″ run) known-next (to-next l₂ a γ) (and-then ! (load ! (from ! (stop !)) (look ! 5 refl)) (no-more !)) (λ u′.
         use1 W (later (some (λ (t : WriteAnswer). ((‵ (flft (a ∷ κ) (PosShare·left q)) ⊛ ‵ (flft κ (PosShare·right q)) ⊛ ‵ ftrue) ⊛ ‵ (S.the-row .own t (u′ ∷ []))) ⊛ raw (ensured 𝓤 H A next.ended (next.clauses 𝓤 H A mem″ run) (a ∷ κ, (κ, tt)) (lent l₂ a γ, tt) tt t)))) (id⊢ 𝓤 _) $ await ! tt $ pick ! (λ t.
-        split ! $ move ! (1 ∷ []) $ use1 W (some (λ (zs : Reader × Unit {0}). ‵ (lasts next.ended (a ∷ κ, (κ, tt)) (lent l₂ a γ, tt) zs) ⊛ raw (fact 𝓤 ((t ≡ found) × (zs .0 ≡ moved h))))) (id⊢ 𝓤 _) $ pick ! (λ zs.
-        split ! $ drop ! $ heard ! ((t ≡ found) × (zs .0 ≡ moved h)) (λ e′. split ! $ split ! $ move ! (2 ∷ []) $
+        split ! $ move ! (1 ∷ []) $ use1 W (some (λ (zs : Reader × Unit {0}). ‵ (lasts next.ended (a ∷ κ, (κ, tt)) (lent l₂ a γ, tt) zs) ⊛ raw (fact 𝓤 ((t ≡ found) × (zs .0 ≡ readerAfter h))))) (id⊢ 𝓤 _) $ pick ! (λ zs.
+        split ! $ drop ! $ heard ! ((t ≡ found) × (zs .0 ≡ readerAfter h)) (λ e′. split ! $ split ! $ move ! (2 ∷ []) $
         -- [the result; the meet's token; κ's other half; the way back to a's; true; the lender's part; what s owns; _4; …]
         peeks ! S.the-row (Is S.the-row) (shows 𝓤 H A S.the-row) t (u′ ∷ []) (λ is′. land ! (from ! (stop !)) (init ! 14 refl (EL.lawful S.the-type S′.the-laws 𝓤 H A W tt .typed t _ is′ .0)) $
         -- the lifetime is ended, and _2 taken back

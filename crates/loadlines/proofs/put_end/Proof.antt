@@ -1,7 +1,8 @@
 -- `loadlines::put_end` meets its contract.
 use Rattle.fields.proofs.Laws.{Put, put-then, put-field, put-whole, length-hexadecimal}
-use Rattle.fields.specs.Fields.{ascii, hexadecimal, decimal}
-use Rattle.reportlines.specs.Lines.{endLine}
+use Rattle.fields.specs.Fields.{ascii, decimal}
+use Rattle.digits.specs.Digit.{hexadecimal}
+use Rattle.reportlines.specs.Reportlines.{endLine}
 use Rattle.reportlines.proofs.Laws.{length-end}
 use lib.ListN.{length}
 use native.Mathlib.Omega.{arith}

@@ -1,6 +1,6 @@
 -- `loadlines::put_loaded` meets its contract.
 use Rattle.fields.specs.Fields.{ascii}
-use Rattle.reportlines.specs.Lines.{loadedLine}
+use Rattle.reportlines.specs.Reportlines.{loadedLine}
 use borrow.Author.Needs.{needs}
 use Rattle.loadlines.proofs.put_loaded.Statement.{statement}
 use Rattle.loadlines.proofs.put_loaded.Tie as tie

@@ -1,8 +1,8 @@
 -- `loadlines::put_report` meets its contract.
 use Rattle.fields.proofs.Laws.{Put, put-then, put-after}
 use Rattle.reportlines.proofs.Laws.{length-loaded, length-writes}
-use Rattle.reportlines.specs.Lines.{loadedLine, writeLines, endLine}
-use Rattle.writes.specs.Cursor.{rest}
+use Rattle.reportlines.specs.Reportlines.{loadedLine, writeLines, endLine}
+use Rattle.writes.specs.Cursor.{remainingWrites}
 use lib.ListN.{length}
 use native.Mathlib.Omega.{arith}
 use mathlib.Core.Path.{refl}
@@ -27,7 +27,7 @@ returns : tie.Need-returns
 returns c =
     let begun = c .before .before .before .before .before .before .before .before .before .before .before .before .before .before in
     let out = begun .args .out .now in
-    let left = rest (begun .args .chip .now) (begun .args .cursor) in
+    let left = remainingWrites (begun .args .chip .now) (begun .args .cursor) in
     let last = endLine (begun .args .end) (begun .args .writes) in
     let named : Put out 0 (loadedLine (begun .args .jumped)) 14 (c .before .before .before .before .before .before .before .before .before .before .put-loaded .last .0) = record { long = length-loaded (begun .args .jumped); room = omega arith; is = c .before .before .before .before .before .before .before .before .before .before .put-loaded .ensures } in
     let listed = put-then named (writeLines left) (27 * length left) (c .before .before .before .before .before .before .put-writes .last .1 .1 .0) (length-writes left) (omega arith) (c .before .before .before .before .before .before .put-writes .ensures .1) in

@@ -2,8 +2,8 @@
 use mathlib.Core.Path.{sym, ap, _∙_}
 use native.Mathlib.Omega.{arith}
 use lib.ListN.{length}
-use Rattle.chip.specs.Layout.{page}
-use Rattle.comparison.specs.Comparison.{filled}
+use Rattle.kind.specs.Layout.{page}
+use Rattle.comparison.specs.Comparison.{padded}
 use borrow.Author.Needs.{needs}
 use Rattle.orders.proofs.CarriedLaws.{programs, programs-none, carried-length}
 use Rattle.orders.proofs.bytes_at.Statement.{statement}
@@ -15,8 +15,8 @@ slice-aggregate-carried-bytes c = search needs
 carried-bytes-requires : tie.Need-carried-bytes-requires
 carried-bytes-requires c κs = search needs
 
-filled-page-requires : tie.Need-filled-page-requires
-filled-page-requires c κs =
+padded-page-requires : tie.Need-padded-page-requires
+padded-page-requires c κs =
     let args = c .before .before .before .before .args in
     let l = carried-length (args .image .now) (args .phase) (args .index) in
     let e = ap length (c .carried-bytes .ensures) in
@@ -24,10 +24,10 @@ filled-page-requires c κs =
 
 returns : tie.Need-returns
 returns c =
-    λ layout. c .filled-page .ensures ∙ ap (filled page) (c .before .carried-bytes .ensures ∙ sym (programs layout _ _ _ (c .before .before .before .match .keys1)))
+    λ layout. c .padded-page .ensures ∙ ap (padded page) (c .before .carried-bytes .ensures ∙ sym (programs layout _ _ _ (c .before .before .before .match .keys1)))
 
 returns-2 : tie.Need-returns-2
-returns-2 c = λ layout. ap (filled page) (sym (programs-none layout _ _ _ (c .match .rest .1)))
+returns-2 c = λ layout. ap (padded page) (sym (programs-none layout _ _ _ (c .match .rest .1)))
 
 pub bytes-at-spec : {M : Type 1} → statement M
 bytes-at-spec =
@@ -35,6 +35,6 @@ bytes-at-spec =
     (tie.spec
     slice-aggregate-carried-bytes
     carried-bytes-requires
-    filled-page-requires
+    padded-page-requires
     returns
     returns-2)

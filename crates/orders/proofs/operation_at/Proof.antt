@@ -3,11 +3,11 @@ use Prim.Native.Nat.{_+_, _-_, _*_}
 use mathlib.Core.Path.{_≡_, refl, sym, ap, _∙_}
 use native.Mathlib.Omega.{arith}
 use lib.ListN.{length}
-use Rattle.chip.specs.Layout.{page}
-use Rattle.comparison.proofs.Laws.{filled-length}
+use Rattle.kind.specs.Layout.{page}
+use Rattle.comparison.proofs.Laws.{padded-length}
 use Rattle.orders.specs.Table.{byPhase}
 use Rattle.orders.specs.Orders.{pageOf, orderOf, operationOf}
-use Rattle.orders.specs.declared.Operation.the-variants.{Program, Look}
+use Rattle.orders.specs.Types.{Program, Look}
 use Rattle.orders.proofs.TableLaws.{image-pages, last-phase}
 use Rattle.orders.proofs.OrderLaws.{page-length}
 use borrow.Author.Needs.{needs}
@@ -29,17 +29,17 @@ mul-t9 c = search needs
 add-t10 : tie.Need-add-t10
 add-t10 c = search needs
 
-mul-smaller : tie.Need-mul-smaller
-mul-smaller c = search needs
+mul-min : tie.Need-mul-min
+mul-min c = search needs
 
-sub-smaller : tie.Need-sub-smaller
-sub-smaller c =
+sub-min : tie.Need-sub-min
+sub-min c =
     let args = c .before .before .args in
     let h = image-pages (args .layout) (args .n) (args .index) (rw (c .match .keys4) at (c .before .before .pre .0)) in
     omega arith
 
-smaller-requires : tie.Need-smaller-requires
-smaller-requires c κs = search needs
+min-requires : tie.Need-min-requires
+min-requires c κs = search needs
 
 returns : tie.Need-returns
 unfolding orderOf byPhase operationOf
@@ -58,16 +58,16 @@ unfolding orderOf byPhase operationOf
 returns-4 c = λ image n.
     let args = c .before .before .before .args in
     let l = page-length image (args .index) in
-    let s : c .smaller .result ≡ length (pageOf image (args .index)) = c .smaller .ensures ∙ omega arith in
-    rw (c .before .match .keys4) (ap (Program (args .layout .update + page * args .index)) s)
+    let s : c .min .result ≡ length (pageOf image (args .index)) = c .min .ensures ∙ omega arith in
+    rw (c .before .match .keys4) (ap (Program (args .layout .«update_place» + page * args .index)) s)
 
 returns-5 : tie.Need-returns-5
 unfolding orderOf byPhase operationOf
 returns-5 c = λ image n.
     let args = c .before .before .args in
     let l = page-length image (args .index) in
-    let s = filled-length page (pageOf image (args .index)) (omega arith) in
-    rw (c .match .keys5) (ap (Look (args .layout .update + page * args .index)) (sym s))
+    let s = padded-length page (pageOf image (args .index)) (omega arith) in
+    rw (c .match .keys5) (ap (Look (args .layout .«update_place» + page * args .index)) (sym s))
 
 returns-6 : tie.Need-returns-6
 unfolding orderOf byPhase operationOf
@@ -90,9 +90,9 @@ operation-at-spec =
     mul-t8
     mul-t9
     add-t10
-    mul-smaller
-    sub-smaller
-    smaller-requires
+    mul-min
+    sub-min
+    min-requires
     returns
     returns-2
     returns-3

@@ -1,7 +1,7 @@
 -- `reportlines::put_refused` meets its contract.
 use Rattle.fields.proofs.Laws.{Put, put-field, put-whole}
 use Rattle.fields.specs.Fields.{ascii, decimal}
-use Rattle.reportlines.specs.Lines.{refusedLine}
+use Rattle.reportlines.specs.Reportlines.{refusedLine}
 use Rattle.reportlines.proofs.LineLaws.{length-refused}
 use lib.ListN.{length}
 use native.Mathlib.Omega.{arith}

@@ -1,7 +1,8 @@
 -- `reportlines::put_stuck` meets its contract.
 use Rattle.fields.proofs.Laws.{Put, put-field, length-hexadecimal}
-use Rattle.fields.specs.Fields.{ascii, hexadecimal}
-use Rattle.reportlines.specs.Lines.{stuckLine}
+use Rattle.fields.specs.Fields.{ascii}
+use Rattle.digits.specs.Digit.{hexadecimal}
+use Rattle.reportlines.specs.Reportlines.{stuckLine}
 use lib.ListN.{length}
 use native.Mathlib.Omega.{arith}
 use mathlib.Core.Path.{refl}

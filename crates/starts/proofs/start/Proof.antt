@@ -1,7 +1,7 @@
 -- `run::start` meets its contract.
 use mathlib.Core.Path.{refl, sym, _∙_}
 use Rattle.starts.proofs.StartLaws.{start-by}
-use Rattle.chip.proofs.Laws.{onLayout}
+use Rattle.kind.proofs.Laws.{onLayout}
 use borrow.Author.Needs.{needs}
 use Rattle.starts.proofs.start.Statement.{statement}
 use Rattle.starts.proofs.start.Tie as tie

@@ -2,7 +2,7 @@
 use mathlib.Core.Path.{sym, _∙_}
 use Rattle.starts.proofs.StartLaws.{start-by}
 use Rattle.bootreader.proofs.Laws.{onAnswer}
-use Rattle.chip.proofs.Laws.{onLayout}
+use Rattle.kind.proofs.Laws.{onLayout}
 use borrow.Author.Needs.{needs}
 use Rattle.starts.proofs.start_allowed.Statement.{statement}
 use Rattle.starts.proofs.start_allowed.Tie as tie

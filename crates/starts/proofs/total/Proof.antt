@@ -1,6 +1,6 @@
 -- `run::total` meets its contract.
 use mathlib.Core.Path.{sym, _∙_}
-use Rattle.chip.proofs.Laws.{onLayout}
+use Rattle.kind.proofs.Laws.{onLayout}
 use Rattle.starts.proofs.StartLaws.{total-by}
 use borrow.Author.Needs.{needs}
 use Rattle.starts.proofs.total.Statement.{statement}

@@ -1,6 +1,6 @@
 -- `image::check` meets its contract.
 use borrow.Author.Needs.{needs}
-use Rattle.bootreader.specs.Answers.{imageAnswer}
+use Rattle.bootreader.specs.Image.{imageAnswer}
 use Rattle.bootreader.proofs.image.check.Statement.{statement}
 use Rattle.bootreader.proofs.image.check.Tie as tie
 

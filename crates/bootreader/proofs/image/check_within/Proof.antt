@@ -3,21 +3,20 @@ use borrow.Author.Tests.{not-true, not-false}
 use mathlib.Core.Path.{_≡_, refl, sym, ap₂, _∙_}
 use mathlib.Core.Logic.{⊎-elim}
 use native.Mathlib.Omega.{arith}
-use Rattle.configreader.specs.declared.Outcome.{Outcome}
-use Rattle.configreader.specs.declared.Outcome.the-variants.{Loaded, Iprog, Stuck}
-use Rattle.bootreader.specs.declared.image.ImageAnswer.the-variants.{Refused}
+use Rattle.kind.specs.Spi.{spi}
+use Rattle.bootreader.specs.Types.{Outcome, Loaded, OutcomeIprog, Stuck, ImageRefused}
 use Rattle.base.specs.Question.{ask}
-use Rattle.bootreader.specs.Answers.{imageWithin, aloneCase}
+use Rattle.bootreader.specs.Image.{imageWithin, aloneCase}
 use borrow.Author.Needs.{needs}
 use Rattle.bootreader.proofs.image.check_within.Statement.{statement}
 use Rattle.bootreader.proofs.image.check_within.Tie as tie
 
-length-allowed-requires : tie.Need-length-allowed-requires
-length-allowed-requires c κs = search needs
+image-length-allowed-requires : tie.Need-image-length-allowed-requires
+image-length-allowed-requires c κs = search needs
 
 returns : tie.Need-returns
 unfolding ask
-returns c = rw (sym (c .before .length-allowed .ensures) ∙ not-true _ (c .if1 .taken)) refl
+returns c = rw (sym (c .before .image-length-allowed .ensures) ∙ not-true _ (c .if1 .taken)) refl
 
 read-alone-requires : tie.Need-read-alone-requires
 read-alone-requires c κs = search needs
@@ -35,20 +34,20 @@ returns-2 : tie.Need-returns-2
 unfolding ask aloneCase
 returns-2 c = go (c .before .before .before .read-alone .result) refl
   where
-    go : (o : Outcome) → c .before .before .before .read-alone .result ≡ o → Refused (c .before .number-of .result) (c .place-of .result) ≡ imageWithin (c .before .before .before .before .before .before .before .args .longest) (c .before .before .before .before .before .before .before .args .image .now)
+    go : (o : Outcome) → c .before .before .before .read-alone .result ≡ o → ImageRefused (c .before .number-of .result) (c .place-of .result) ≡ imageWithin spi (c .before .before .before .before .before .before .before .args .longest) (c .before .before .before .before .before .before .before .args .image .now)
     go (Loaded sync end writes jumped) e = absurd (⊎-elim (λ z. omega arith) (λ z. omega arith) (rw e at (c .before .before .match .keys2)))
-    go (Iprog place) e = rw (sym (c .before .before .before .before .before .length-allowed .ensures) ∙ not-false _ (c .before .before .before .before .if1 .left), sym (c .before .before .before .read-alone .ensures) ∙ e) (ap₂ Refused (rw e at (c .before .number-of .ensures)) (rw e at (c .place-of .ensures)))
-    go (Stuck place) e = rw (sym (c .before .before .before .before .before .length-allowed .ensures) ∙ not-false _ (c .before .before .before .before .if1 .left), sym (c .before .before .before .read-alone .ensures) ∙ e) (ap₂ Refused (rw e at (c .before .number-of .ensures)) (rw e at (c .place-of .ensures)))
+    go (OutcomeIprog place) e = rw (sym (c .before .before .before .before .before .image-length-allowed .ensures) ∙ not-false _ (c .before .before .before .before .if1 .left), sym (c .before .before .before .read-alone .ensures) ∙ e) (ap₂ ImageRefused (rw e at (c .before .number-of .ensures)) (rw e at (c .place-of .ensures)))
+    go (Stuck place) e = rw (sym (c .before .before .before .before .before .image-length-allowed .ensures) ∙ not-false _ (c .before .before .before .before .if1 .left), sym (c .before .before .before .read-alone .ensures) ∙ e) (ap₂ ImageRefused (rw e at (c .before .number-of .ensures)) (rw e at (c .place-of .ensures)))
 
 returns-3 : tie.Need-returns-3
 unfolding ask aloneCase
-returns-3 c = rw (sym (c .before .before .before .before .before .length-allowed .ensures) ∙ not-false _ (c .before .before .before .before .if1 .left), sym (c .before .before .before .read-alone .ensures) ∙ c .before .outcome .given .1) refl
+returns-3 c = rw (sym (c .before .before .before .before .before .image-length-allowed .ensures) ∙ not-false _ (c .before .before .before .before .if1 .left), sym (c .before .before .before .read-alone .ensures) ∙ c .before .outcome .given .1) refl
 
 pub check-within-spec : {M : Type 1} → statement M
 check-within-spec =
     tie.close
     (tie.spec
-    length-allowed-requires
+    image-length-allowed-requires
     returns
     read-alone-requires
     enum-known-outcome

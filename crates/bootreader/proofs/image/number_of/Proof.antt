@@ -1,5 +1,5 @@
 -- `image::number_of` meets its contract.
-use Rattle.bootreader.specs.Answers.{aloneCase}
+use Rattle.bootreader.specs.Image.{aloneCase}
 use borrow.Author.Needs.{needs}
 use Rattle.bootreader.proofs.image.number_of.Statement.{statement}
 use Rattle.bootreader.proofs.image.number_of.Tie as tie

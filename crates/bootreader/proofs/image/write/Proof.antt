@@ -1,11 +1,12 @@
 -- `image::write` meets its contract: it goes by the image check.
 use Prim.Native.Nat.{_+_}
-use mathlib.Core.Path.{sym, _∙_}
+use mathlib.Core.Path.{sym, ap, _∙_}
+use mathlib.Core.List.{List}
 use native.Mathlib.Omega.{arith}
-use Rattle.bootreader.proofs.AnswerLaws.{onAnswer, by-answer, accepted-sync}
-use Rattle.packets.specs.Trace.{nthWrite, writesFrom}
-use Rattle.bootreader.specs.Answers.{longestImage, imageAnswer, imageWrite}
-use Rattle.packets.specs.declared.trace.WriteAnswer.the-variants.{Refused as WriteRefused}
+use Rattle.bootreader.proofs.AnswerLaws.{onAnswer, write-by-answer, accepted-lists, accepted-sync}
+use Rattle.packets.specs.Trace.{nthWrite}
+use Rattle.bootreader.specs.Image.{longestImage, imageAnswer}
+use Rattle.bootreader.specs.Types.{Write}
 use borrow.Author.Needs.{needs}
 use Rattle.bootreader.proofs.image.write.Statement.{statement}
 use Rattle.bootreader.proofs.image.write.Tie as tie
@@ -27,12 +28,20 @@ enum-known-answer-2 : tie.Need-enum-known-answer-2
 enum-known-answer-2 c = search needs
 
 returns : tie.Need-returns
-unfolding imageAnswer imageWrite onAnswer
-returns c = c .nth-from .ensures ∙ rw (sym (c .before .before .before .before .check .ensures) ∙ c .before .before .answer .given .1) at (by-answer WriteRefused (λ sync end writes. nthWrite (writesFrom (c .before .before .before .before .before .before .args .image .now) (sync + 4)) (c .before .before .before .before .before .before .args .i)) longestImage (c .before .before .before .before .before .before .args .image .now))
+unfolding onAnswer
+returns c =
+    let image = c .before .before .before .before .before .before .args .image .now in
+    let i = c .before .before .before .before .before .before .args .i in
+    let checked = sym (c .before .before .before .before .check .ensures) ∙ c .before .before .answer .given .1 in
+    c .nth-from .ensures
+    ∙ ap (λ (l : List Write). nthWrite l i) (sym (accepted-lists image _ _ _ checked))
+    ∙ (rw checked at (write-by-answer image i))
 
 returns-2 : tie.Need-returns-2
-unfolding imageAnswer imageWrite onAnswer
-returns-2 c = rw (sym (c .before .before .before .check .ensures) ∙ c .before .answer2 .given .1) at (by-answer WriteRefused (λ sync end writes. nthWrite (writesFrom (c .before .before .before .before .before .args .image .now) (sync + 4)) (c .before .before .before .before .before .args .i)) longestImage (c .before .before .before .before .before .args .image .now))
+unfolding onAnswer
+returns-2 c =
+    rw (sym (c .before .before .before .check .ensures) ∙ c .before .answer2 .given .1) at
+    (write-by-answer (c .before .before .before .before .before .args .image .now) (c .before .before .before .before .before .args .i))
 
 pub write-spec : {M : Type 1} → statement M
 write-spec =

@@ -4,8 +4,8 @@ use mathlib.Core.Path.{sym, ap, _∙_}
 use native.Mathlib.Omega.{arith}
 use Rattle.bootreader.proofs.AnswerLaws.{onAnswer, by-answer, accepted-sync}
 use Rattle.writes.specs.Cursor.{cursorAt}
-use Rattle.bootreader.specs.Answers.{longestImage, imageAnswer, imageListing}
-use Rattle.writes.specs.declared.cursor.Listing.the-variants.{Open, Refused as ListingRefused}
+use Rattle.bootreader.specs.Image.{longestImage, imageAnswer, imageListing}
+use Rattle.bootreader.specs.Types.{ListingOpen, ListingRefused}
 use borrow.Author.Needs.{needs}
 use Rattle.bootreader.proofs.image.writes.Statement.{statement}
 use Rattle.bootreader.proofs.image.writes.Tie as tie
@@ -28,11 +28,11 @@ enum-known-answer-2 c = search needs
 
 returns : tie.Need-returns
 unfolding imageAnswer imageListing onAnswer
-returns c = ap Open (c .new .ensures) ∙ rw (sym (c .before .before .before .before .check .ensures) ∙ c .before .before .answer .given .1) at (by-answer ListingRefused (λ sync end writes. Open (cursorAt (sync + 4) writes)) longestImage (c .before .before .before .before .before .before .args .image .now))
+returns c = ap ListingOpen (c .new .ensures) ∙ rw (sym (c .before .before .before .before .check .ensures) ∙ c .before .before .answer .given .1) at (by-answer ListingRefused (λ sync end writes. ListingOpen (cursorAt (sync + 4) writes)) longestImage (c .before .before .before .before .before .before .args .image .now))
 
 returns-2 : tie.Need-returns-2
 unfolding imageAnswer imageListing onAnswer
-returns-2 c = rw (sym (c .before .before .before .check .ensures) ∙ c .before .answer2 .given .1) at (by-answer ListingRefused (λ sync end writes. Open (cursorAt (sync + 4) writes)) longestImage (c .before .before .before .before .before .args .image .now))
+returns-2 c = rw (sym (c .before .before .before .check .ensures) ∙ c .before .answer2 .given .1) at (by-answer ListingRefused (λ sync end writes. ListingOpen (cursorAt (sync + 4) writes)) longestImage (c .before .before .before .before .before .args .image .now))
 
 pub writes-spec : {M : Type 1} → statement M
 writes-spec =

@@ -8,10 +8,10 @@ use borrow.Author.Tests.{not-true, not-false, ltb-true, ltb-false}
 use lib.Dec.{ltb}
 use lib.ListN.{getD}
 use Rattle.base.specs.Question.{ask}
-use Rattle.bootreader.proofs.Laws.{length-allowed}
-use Rattle.chip.specs.Layout.{switchAt}
-use Rattle.chip.specs.Kind.{spiOn}
-use Rattle.chip.specs.Answers.{switchCase, switchAnswer}
+use Rattle.kind.proofs.Laws.{chip-length-range}
+use Rattle.kind.specs.Layout.{switchAt}
+use Rattle.kind.specs.Spi.{spiOn}
+use Rattle.chip.specs.Switch.{switchCase, switchAnswer}
 use Rattle.chip.proofs.SwitchLaws.{is-on, is-off}
 use Rattle.chip.proofs.switch.read.Statement.{statement}
 use Rattle.chip.proofs.switch.read.Tie as tie
@@ -22,12 +22,12 @@ Inv-loop chip on i₀ i = (i ≤ 4) × ((j : ℕ) → j < i → getD chip (switc
 abbrev μ-loop : tie.MeasureT-loop
 μ-loop chip on i₀ i = 4 - i
 
-length-allowed-requires : tie.Need-length-allowed-requires Inv-loop μ-loop
-length-allowed-requires c κs = search needs
+chip-length-allowed-requires : tie.Need-chip-length-allowed-requires Inv-loop μ-loop
+chip-length-allowed-requires c κs = search needs
 
 returns : tie.Need-returns Inv-loop μ-loop
 unfolding switchAnswer ask
-returns c = rw (sym (c .before .length-allowed .ensures) ∙ not-true _ (c .if1 .taken)) refl
+returns c = rw (sym (c .before .chip-length-allowed .ensures) ∙ not-true _ (c .if1 .taken)) refl
 
 loop-holds : tie.Need-loop-holds Inv-loop μ-loop
 loop-holds c = (omega arith, λ j h. absurd (omega arith))
@@ -36,7 +36,7 @@ add-if2 : tie.Need-add-if2 Inv-loop μ-loop
 add-if2 c = omega arith
 
 shared-slice-read-if2 : tie.Need-shared-slice-read-if2 Inv-loop μ-loop
-shared-slice-read-if2 c = let l = length-allowed _ (sym (c .before .before .before .before .length-allowed .ensures) ∙ not-false _ (c .before .before .before .if1 .left)) in omega arith
+shared-slice-read-if2 c = let l = chip-length-range _ (sym (c .before .before .before .before .chip-length-allowed .ensures) ∙ not-false _ (c .before .before .before .if1 .left)) in omega arith
 
 array-read-if2 : tie.Need-array-read-if2 Inv-loop μ-loop
 array-read-if2 c = omega arith
@@ -44,7 +44,7 @@ array-read-if2 c = omega arith
 returns-2 : tie.Need-returns-2 Inv-loop μ-loop
 unfolding switchAnswer switchCase ask
 returns-2 c =
-    rw (sym (c .before .before .before .before .before .length-allowed .ensures) ∙ not-false _ (c .before .before .before .before .if1 .left), is-off (c .before .before .before .before .before .before .before .args .chip .now) (c .before .before .before .loop .i) (omega arith) (c .if2 .taken)) refl
+    rw (sym (c .before .before .before .before .before .chip-length-allowed .ensures) ∙ not-false _ (c .before .before .before .before .if1 .left), is-off (c .before .before .before .before .before .before .before .args .chip .now) (c .before .before .before .loop .i) (omega arith) (c .if2 .taken)) refl
 
 add-i : tie.Need-add-i Inv-loop μ-loop
 add-i c = omega arith
@@ -62,9 +62,9 @@ loop-again c = (omega arith, λ j h. go j h (ltb j (c .before .before .before .l
 returns-3 : tie.Need-returns-3 Inv-loop μ-loop
 unfolding switchAnswer switchCase ask
 returns-3 c =
-    let l = length-allowed _ (sym (c .before .before .before .length-allowed .ensures) ∙ not-false _ (c .before .before .if1 .left)) in
+    let l = chip-length-range _ (sym (c .before .before .before .chip-length-allowed .ensures) ∙ not-false _ (c .before .before .if1 .left)) in
     let four : c .before .loop .i ≡ 4 = omega arith in
-    rw (sym (c .before .before .before .length-allowed .ensures) ∙ not-false _ (c .before .before .if1 .left), is-on (c .before .before .before .before .before .args .chip .now) (omega arith) (λ j h. c .before .loop .inv .1 j (omega arith))) refl
+    rw (sym (c .before .before .before .chip-length-allowed .ensures) ∙ not-false _ (c .before .before .if1 .left), is-on (c .before .before .before .before .before .args .chip .now) (omega arith) (λ j h. c .before .loop .inv .1 j (omega arith))) refl
 
 pub read-spec : {M : Type 1} → statement M
 read-spec =
@@ -72,7 +72,7 @@ read-spec =
     (tie.spec
     Inv-loop
     μ-loop
-    length-allowed-requires
+    chip-length-allowed-requires
     returns
     loop-holds
     add-if2

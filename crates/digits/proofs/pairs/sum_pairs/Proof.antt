@@ -1,7 +1,7 @@
 -- `pairs::sum_pairs` meets its contract. The loop's invariant: so far all are pairs, and the sum is theirs.
 use Rattle.digits.proofs.PairLaws.{total-pairs, are-more}
 use Rattle.digits.specs.Pairs.{IsPair, ArePairs, pairAt, pairsAt, Summed}
-use Rattle.digits.specs.Digit.{total}
+use Rattle.digits.specs.Digit.{byteSum}
 use borrow.Author.Needs.{needs}
 use native.Mathlib.Omega.{arith}
 use mathlib.Core.Path.{_≡_, refl}
@@ -10,13 +10,13 @@ use Rattle.digits.proofs.pairs.sum_pairs.Statement.{statement}
 use Rattle.digits.proofs.pairs.sum_pairs.Tie as tie
 
 abbrev Inv-loop : tie.InvT-loop
-Inv-loop values text at count sum₀ i₀ sum i = (i ≤ count) × ArePairs text at i × (sum ≡ total (pairsAt text at i)) × (sum ≤ 255 * i)
+Inv-loop values text at count sum₀ i₀ sum i = (i ≤ count) × ArePairs text at i × (sum ≡ byteSum (pairsAt text at i)) × (sum ≤ 255 * i)
 
 abbrev μ-loop : tie.MeasureT-loop
 μ-loop values text at count sum₀ i₀ sum i = count - i
 
 loop-holds : tie.Need-loop-holds Inv-loop μ-loop
-unfolding total pairsAt
+unfolding byteSum pairsAt
 loop-holds c = (omega arith, λ j h. absurd (omega arith), refl, omega arith)
 
 mul-digit : tie.Need-mul-digit Inv-loop μ-loop
@@ -74,7 +74,7 @@ loop-again c =
     let text = c .before .before .before .before .before .before .before .before .before .before .args .text .now in
     let at = c .before .before .before .before .before .before .before .before .before .before .args .at in
     let i = c .before .before .before .before .before .before .before .loop .i in
-    let more : total (pairsAt text at (i + 1)) ≡ total (pairsAt text at i) + pairAt text (at + 2 * i) = total-pairs text i at in
+    let more : byteSum (pairsAt text at (i + 1)) ≡ byteSum (pairsAt text at i) + pairAt text (at + 2 * i) = total-pairs text i at in
     (omega arith, are-more text at i (c .before .before .before .before .before .before .before .loop .inv .1) (omega arith, omega arith), omega arith, omega arith)
 
 returns-3 : tie.Need-returns-3 Inv-loop μ-loop

@@ -8,7 +8,7 @@ use native.Mathlib.Omega.{arith}
 use borrow.Author.Count.{below-more}
 use borrow.Author.Needs.{needs}
 use lib.ListN.{length, getD, drop, length-drop}
-use Rattle.framing.specs.Search.{syncBytes, starts, find}
+use Rattle.framing.specs.Search.{syncBytes, beginsWith, find}
 use Rattle.framing.proofs.SearchLaws.{find-here, find-short, find-past, differs-at, stands-at}
 use Rattle.framing.proofs.search.find_sync.Statement.{statement}
 use Rattle.framing.proofs.search.find_sync.Tie as tie
@@ -71,7 +71,7 @@ search-less c = omega arith
 -- no sync word begins at the place compared, nor at those passed over
 passed : (s : List ℕ) (at j r : ℕ) → j < 4 → (getD s (at + j) 0 ≡ getD syncBytes j 0 → ⊥) → r ≤ 4 →
     ((i : ℕ) → 1 ≤ i → i < r → getD s (at + 3) 0 ≡ getD syncBytes (3 - i) 0 → ⊥) →
-    (i : ℕ) → i < r → starts syncBytes (drop (at + i) s) ≡ false
+    (i : ℕ) → i < r → beginsWith syncBytes (drop (at + i) s) ≡ false
 passed s at j r hj d hr h zero hi = differs-at s (at + 0) j hj (rw add-zero d)
 passed s at j r hj d hr h (suc i) hi =
     let e : at + suc i + (3 - suc i) ≡ at + 3 = omega arith in

@@ -1,5 +1,5 @@
 -- `tealsettle_boot` meets its contract.
-use Rattle.results.specs.Results.{bootResult}
+use Rattle.results.specs.Boot.{bootResult}
 use Rattle.base.specs.Question.{ask}
 use mathlib.Core.Logic.{⊎-elim}
 use mathlib.Core.Path.{sym, ap, _∙_}
@@ -7,11 +7,11 @@ use borrow.Author.Needs.{needs}
 use Rattle.host.proofs.boot.tealsettle_boot.Statement.{statement}
 use Rattle.host.proofs.boot.tealsettle_boot.Tie as tie
 
-is-spi-requires : tie.Need-is-spi-requires
-is-spi-requires c κs = search needs
+has-number-requires : tie.Need-has-number-requires
+has-number-requires c κs = search needs
 
-boot-requires : tie.Need-boot-requires
-boot-requires c κs = search needs
+answer-requires : tie.Need-answer-requires
+answer-requires c κs = search needs
 
 boot-result-requires : tie.Need-boot-result-requires
 boot-result-requires c κs = search needs
@@ -19,7 +19,7 @@ boot-result-requires c κs = search needs
 returns : tie.Need-returns
 unfolding ask
 returns c =
-    let asked = sym (c .before .before .is-spi .ensures) in
+    let asked = sym (c .before .before .has-number .ensures) in
     c .boot-result .ensures
     ∙ ap bootResult
     (⊎-elim
@@ -28,4 +28,4 @@ returns c =
     (c .before .if1 .came))
 
 pub tealsettle-boot-spec : {M : Type 1} → statement M
-tealsettle-boot-spec = tie.close (tie.spec is-spi-requires boot-requires boot-result-requires returns)
+tealsettle-boot-spec = tie.close (tie.spec has-number-requires answer-requires boot-result-requires returns)

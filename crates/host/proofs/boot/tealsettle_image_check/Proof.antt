@@ -1,5 +1,5 @@
 -- `tealsettle_image_check` meets its contract.
-use Rattle.results.specs.Results.{imageResult}
+use Rattle.results.specs.Boot.{imageResult}
 use Rattle.base.specs.Question.{ask}
 use mathlib.Core.Logic.{⊎-elim}
 use mathlib.Core.Path.{sym, ap, _∙_}
@@ -7,8 +7,8 @@ use borrow.Author.Needs.{needs}
 use Rattle.host.proofs.boot.tealsettle_image_check.Statement.{statement}
 use Rattle.host.proofs.boot.tealsettle_image_check.Tie as tie
 
-is-spi-requires : tie.Need-is-spi-requires
-is-spi-requires c κs = search needs
+has-number-requires : tie.Need-has-number-requires
+has-number-requires c κs = search needs
 
 check-requires : tie.Need-check-requires
 check-requires c κs = search needs
@@ -19,7 +19,7 @@ image-result-requires c κs = search needs
 returns : tie.Need-returns
 unfolding ask
 returns c =
-    let asked = sym (c .before .before .is-spi .ensures) in
+    let asked = sym (c .before .before .has-number .ensures) in
     c .image-result .ensures
     ∙ ap imageResult
     (⊎-elim
@@ -28,4 +28,4 @@ returns c =
     (c .before .if1 .came))
 
 pub tealsettle-image-check-spec : {M : Type 1} → statement M
-tealsettle-image-check-spec = tie.close (tie.spec is-spi-requires check-requires image-result-requires returns)
+tealsettle-image-check-spec = tie.close (tie.spec has-number-requires check-requires image-result-requires returns)

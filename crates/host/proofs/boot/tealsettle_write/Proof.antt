@@ -1,5 +1,5 @@
 -- `tealsettle_write` meets its contract.
-use Rattle.results.specs.Results.{writeResult}
+use Rattle.results.specs.Boot.{writeResult}
 use Rattle.base.specs.Question.{ask}
 use mathlib.Core.Logic.{⊎-elim}
 use mathlib.Core.Path.{sym, ap, _∙_}
@@ -7,8 +7,8 @@ use borrow.Author.Needs.{needs}
 use Rattle.host.proofs.boot.tealsettle_write.Statement.{statement}
 use Rattle.host.proofs.boot.tealsettle_write.Tie as tie
 
-is-spi-requires : tie.Need-is-spi-requires
-is-spi-requires c κs = search needs
+has-number-requires : tie.Need-has-number-requires
+has-number-requires c κs = search needs
 
 write-requires : tie.Need-write-requires
 write-requires c κs = search needs
@@ -19,7 +19,7 @@ write-result-requires c κs = search needs
 returns : tie.Need-returns
 unfolding ask
 returns c =
-    let asked = sym (c .before .before .is-spi .ensures) in
+    let asked = sym (c .before .before .has-number .ensures) in
     c .write-result .ensures
     ∙ ap writeResult
     (⊎-elim
@@ -28,4 +28,4 @@ returns c =
     (c .before .if1 .came))
 
 pub tealsettle-write-spec : {M : Type 1} → statement M
-tealsettle-write-spec = tie.close (tie.spec is-spi-requires write-requires write-result-requires returns)
+tealsettle-write-spec = tie.close (tie.spec has-number-requires write-requires write-result-requires returns)

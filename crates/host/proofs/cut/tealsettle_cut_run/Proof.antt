@@ -1,5 +1,5 @@
 -- `tealsettle_cut_run` meets its contract.
-use Rattle.runresults.specs.Results.{benchResult}
+use Rattle.runresults.specs.Cut.{benchResult}
 use Rattle.base.specs.Question.{ask}
 use mathlib.Core.Logic.{⊎-elim}
 use mathlib.Core.Path.{sym, ap, _∙_}
@@ -7,8 +7,8 @@ use borrow.Author.Needs.{needs}
 use Rattle.host.proofs.cut.tealsettle_cut_run.Statement.{statement}
 use Rattle.host.proofs.cut.tealsettle_cut_run.Tie as tie
 
-is-spi-requires : tie.Need-is-spi-requires
-is-spi-requires c κs = search needs
+has-number-requires : tie.Need-has-number-requires
+has-number-requires c κs = search needs
 
 cut-run-requires : tie.Need-cut-run-requires
 cut-run-requires c κs = search needs
@@ -22,7 +22,7 @@ same-length c = ⊎-elim (λ w. search needs) (λ w. search needs) (c .before .i
 returns : tie.Need-returns
 unfolding ask
 returns c =
-    let asked = sym (c .before .before .is-spi .ensures) in (
+    let asked = sym (c .before .before .has-number .ensures) in (
       c .bench-result .ensures
           ∙ ap benchResult
           (⊎-elim
@@ -33,4 +33,4 @@ returns c =
     )
 
 pub tealsettle-cut-run-spec : {M : Type 1} → statement M
-tealsettle-cut-run-spec = tie.close (tie.spec is-spi-requires cut-run-requires bench-result-requires same-length returns)
+tealsettle-cut-run-spec = tie.close (tie.spec has-number-requires cut-run-requires bench-result-requires same-length returns)

@@ -1,15 +1,15 @@
 -- `tealsettle_finished` meets its contract.
-use Rattle.runresults.specs.Results.{finishedResult}
+use Rattle.runresults.specs.Run.{finishedResult}
 use Rattle.base.specs.Question.{ask}
-use Rattle.updater.specs.Answers.{finishedAnswer}
+use Rattle.updater.specs.Run.{finishedAnswer}
 use mathlib.Core.Logic.{⊎-elim}
 use mathlib.Core.Path.{sym, ap, _∙_}
 use borrow.Author.Needs.{needs}
 use Rattle.host.proofs.run.tealsettle_finished.Statement.{statement}
 use Rattle.host.proofs.run.tealsettle_finished.Tie as tie
 
-is-spi-requires : tie.Need-is-spi-requires
-is-spi-requires c κs = search needs
+has-number-requires : tie.Need-has-number-requires
+has-number-requires c κs = search needs
 
 state-of-requires : tie.Need-state-of-requires
 state-of-requires c κs = search needs
@@ -23,7 +23,7 @@ finished-result-requires c κs = search needs
 returns : tie.Need-returns
 unfolding ask
 returns c =
-    let asked = sym (c .before .before .is-spi .ensures) in
+    let asked = sym (c .before .before .has-number .ensures) in
     c .finished-result .ensures
     ∙ ap finishedResult
     (⊎-elim
@@ -32,4 +32,4 @@ returns c =
     (c .before .if1 .came))
 
 pub tealsettle-finished-spec : {M : Type 1} → statement M
-tealsettle-finished-spec = tie.close (tie.spec is-spi-requires state-of-requires finished-requires finished-result-requires returns)
+tealsettle-finished-spec = tie.close (tie.spec has-number-requires state-of-requires finished-requires finished-result-requires returns)

@@ -1,8 +1,8 @@
 -- `tealsettle_start` meets its contract.
-use Rattle.runresults.specs.Results.{startResult}
+use Rattle.runresults.specs.Run.{startResult}
 use Rattle.base.specs.Question.{ask}
 use Rattle.starts.specs.Starts.{startAnswer}
-use Rattle.chip.specs.Kind.{spi}
+use Rattle.kind.specs.Spi.{spi}
 use mathlib.Core.Logic.{⊎-elim}
 use mathlib.Core.Path.{sym, ap, _∙_}
 use denote.Ref.{now}
@@ -10,8 +10,8 @@ use borrow.Author.Needs.{needs}
 use Rattle.host.proofs.run.tealsettle_start.Statement.{statement}
 use Rattle.host.proofs.run.tealsettle_start.Tie as tie
 
-is-spi-requires : tie.Need-is-spi-requires
-is-spi-requires c κs = search needs
+has-number-requires : tie.Need-has-number-requires
+has-number-requires c κs = search needs
 
 layout-requires : tie.Need-layout-requires
 layout-requires c κs = search needs
@@ -25,7 +25,7 @@ start-result-requires c κs = search needs
 returns : tie.Need-returns
 unfolding ask
 returns c =
-    let asked = sym (c .before .before .is-spi .ensures) in
+    let asked = sym (c .before .before .has-number .ensures) in
     c .start-result .ensures
     ∙ ap startResult
     (⊎-elim
@@ -34,4 +34,4 @@ returns c =
     (c .before .if1 .came))
 
 pub tealsettle-start-spec : {M : Type 1} → statement M
-tealsettle-start-spec = tie.close (tie.spec is-spi-requires layout-requires start-requires start-result-requires returns)
+tealsettle-start-spec = tie.close (tie.spec has-number-requires layout-requires start-requires start-result-requires returns)

@@ -1,5 +1,5 @@
 -- `tealsettle_total` meets its contract.
-use Rattle.runresults.specs.Results.{totalResult}
+use Rattle.runresults.specs.Run.{totalResult}
 use Rattle.base.specs.Question.{ask}
 use Rattle.starts.specs.Starts.{totalAnswer}
 use mathlib.Core.Logic.{⊎-elim}
@@ -8,8 +8,8 @@ use borrow.Author.Needs.{needs}
 use Rattle.host.proofs.run.tealsettle_total.Statement.{statement}
 use Rattle.host.proofs.run.tealsettle_total.Tie as tie
 
-is-spi-requires : tie.Need-is-spi-requires
-is-spi-requires c κs = search needs
+has-number-requires : tie.Need-has-number-requires
+has-number-requires c κs = search needs
 
 layout-requires : tie.Need-layout-requires
 layout-requires c κs = search needs
@@ -23,7 +23,7 @@ total-result-requires c κs = search needs
 returns : tie.Need-returns
 unfolding ask
 returns c =
-    let asked = sym (c .before .before .is-spi .ensures) in
+    let asked = sym (c .before .before .has-number .ensures) in
     c .total-result .ensures
     ∙ ap totalResult
     (⊎-elim
@@ -32,4 +32,4 @@ returns c =
     (c .before .if1 .came))
 
 pub tealsettle-total-spec : {M : Type 1} → statement M
-tealsettle-total-spec = tie.close (tie.spec is-spi-requires layout-requires total-requires total-result-requires returns)
+tealsettle-total-spec = tie.close (tie.spec has-number-requires layout-requires total-requires total-result-requires returns)

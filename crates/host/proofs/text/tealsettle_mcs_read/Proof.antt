@@ -1,7 +1,7 @@
 -- `tealsettle_mcs_read` meets its contract.
 use mathlib.Core.Path.{ap, _∙_}
 use borrow.Author.Needs.{needs}
-use Rattle.results.specs.Results.{readResult}
+use Rattle.results.specs.Text.{readResult}
 use Rattle.host.proofs.text.tealsettle_mcs_read.Statement.{statement}
 use Rattle.host.proofs.text.tealsettle_mcs_read.Tie as tie
 

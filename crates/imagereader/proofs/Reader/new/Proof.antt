@@ -37,15 +37,15 @@ use denote.Triple.Table.{entered, cited}
 use denote.Triple.Walked.{says, Stays, stay-none-slice, walkOf, goes-none-slice, Walks, ends-at, walked, walk-meets}
 use denote.Exit.{yes}
 use denote.Triple.Clauses.{ensured, lasts}
-use Rattle.bootreader.specs.Answers.{imageListing}
-use Rattle.writes.specs.declared.cursor.Listing.{Listing}
+use Rattle.kind.specs.Spi.{spi}
+use Rattle.bootreader.specs.Image.{imageListing}
+use Rattle.imagereader.specs.Types.{Listing, Reader}
 use Rattle.writes.proofs.cursor.Listing as S
 use Rattle.writes.proofs.cursor.Listing.Laws as S′
 use Rattle.bootreader.proofs.image.writes as writes
 use Rattle.bootreader.proofs.image.writes.Symbol as writes-def
 use Rattle.bootreader.proofs.image.writes.Symbol.{name as #bootreader·image·writes}
 use Rattle.bootreader.proofs.image.writes.Met as writes-thm
-use Rattle.imagereader.specs.declared.Reader.{Reader}
 use Rattle.imagereader.proofs.Shared.{slice, Own, passes-on}
 use Rattle.imagereader.proofs.Reader as T
 use Rattle.imagereader.proofs.Reader.Laws as T′
@@ -94,8 +94,8 @@ module _ {M : Type 1} (𝓤 : URA M) (H : Heap 𝓤) (A : Atoms 𝓤) (W : Given
   abbrev to : Writes 𝓤 H A mem run .Ghost
   to = (((κ, tt), (q, tt), tt, (s, tt), at), tt)
 
-  said : (l : Listing) → ent 𝓤 (ensured 𝓤 H A writes.ended (writes.clauses 𝓤 H A mem run) (κ, tt) (s, tt) tt l) (fact 𝓤 (l ≡ imageListing (now s)))
-  said l = exE 𝓤 _ (λ ws. snd∗ 𝓤 (sem 𝓤 H A (lasts writes.ended (κ, tt) (s, tt) ws)) (fact 𝓤 (l ≡ imageListing (now s))))
+  said : (l : Listing) → ent 𝓤 (ensured 𝓤 H A writes.ended (writes.clauses 𝓤 H A mem run) (κ, tt) (s, tt) tt l) (fact 𝓤 (l ≡ imageListing spi (now s)))
+  said l = exE 𝓤 _ (λ ws. snd∗ 𝓤 (sem 𝓤 H A (lasts writes.ended (κ, tt) (s, tt) ws)) (fact 𝓤 (l ≡ imageListing spi (now s))))
 
   -- the reader has the struct's MIR type
   typed : (l : Listing) (us : List Val) → us ≡ lv l → Is (ShrSlice (named 0) κ u8) s (slice s ∷ []) → Is S.the-row l us → Holds (hasTy (T′.mir (named 0)) (mach us)) × WT (mach us)
@@ -103,7 +103,7 @@ module _ {M : Type 1} (𝓤 : URA M) (H : Heap 𝓤) (A : Atoms 𝓤) (W : Given
       subst (λ (us : List Val). Holds (hasTy (T′.mir (named 0)) (mach us)) × WT (mach us)) (sym e)
       (LL.lawful D L 𝓤 H A W .typed (made l) _ (LL.owes D L (made l) (p, (subst (Is S.the-row l) e is, tt))) .0)
 
-  made-exits : (l : Listing) → l ≡ imageListing (now s) → ent 𝓤 (⋆ 𝓤 H A (‵ (S.the-row .own l (lv l)) ∷ (‵ (flft κ q) ⊛ ‵ ftrue) ∷ ‵ (Own κ s) ∷ [])) (Post (mach (lv l)))
+  made-exits : (l : Listing) → l ≡ imageListing spi (now s) → ent 𝓤 (⋆ 𝓤 H A (‵ (S.the-row .own l (lv l)) ∷ (‵ (flft κ q) ⊛ ‵ ftrue) ∷ ‵ (Own κ s) ∷ [])) (Post (mach (lv l)))
   made-exits l e =
       qed W (‵ (S.the-row .own l (lv l)) ∷ (‵ (flft κ q) ⊛ ‵ ftrue) ∷ ‵ (Own κ s) ∷ []) ∵
       suffices ! _ (ends-at 𝓤 H A new.ended stayed (new.clauses 𝓤 H A mem run) W (((κ, tt), (q, tt), tt, (s, tt), at), tt) (mach (lv l)) (made l) (tt, tt) (tt, tt)) $ says ! (ap made e) $
@@ -111,7 +111,7 @@ module _ {M : Type 1} (𝓤 : URA M) (H : Heap 𝓤) (A : Atoms 𝓤) (W : Given
       -- [what s owns; what the listing owns]: together what the struct owns
       nothing ! $ move ! (2 ∷ 0 ∷ []) $ fjoin ! $ move ! (1 ∷ 0 ∷ []) $ fjoin ! $ by ! (own-shut 𝓤 H A W D L (s, (l, tt)))
 
-  exits : (l : Listing) (us : List Val) → us ≡ lv l → l ≡ imageListing (now s) → ent 𝓤 (⋆ 𝓤 H A (‵ (S.the-row .own l us) ∷ (‵ (flft κ q) ⊛ ‵ ftrue) ∷ ‵ (Own κ s) ∷ [])) (Post (mach us))
+  exits : (l : Listing) (us : List Val) → us ≡ lv l → l ≡ imageListing spi (now s) → ent 𝓤 (⋆ 𝓤 H A (‵ (S.the-row .own l us) ∷ (‵ (flft κ q) ⊛ ‵ ftrue) ∷ ‵ (Own κ s) ∷ [])) (Post (mach us))
   exits l us e given =
       subst (λ (us : List Val). ent 𝓤 (⋆ 𝓤 H A (‵ (S.the-row .own l us) ∷ (‵ (flft κ q) ⊛ ‵ ftrue) ∷ ‵ (Own κ s) ∷ [])) (Post (mach us))) (sym e) (made-exits l given)
 
@@ -123,7 +123,7 @@ module _ {M : Type 1} (𝓤 : URA M) (H : Heap 𝓤) (A : Atoms 𝓤) (W : Given
         move ! (6 ∷ []) $ use1 W (raw (Writes 𝓤 H A mem run .pre to) ⊛ ‵ (Own κ s)) (passes-on 𝓤 H A κ q s W) $ split ! $
         calls-at ! fm (Writes 𝓤 H A mem run) known to (and-then ! (load ! (from ! (stop !)) (look ! 4 refl)) (no-more !)) (λ u.
         use1 W (later (some (λ (l : Listing). ((‵ (flft κ q) ⊛ ‵ ftrue) ⊛ ‵ (S.the-row .own l (u ∷ []))) ⊛ raw (ensured 𝓤 H A writes.ended (writes.clauses 𝓤 H A mem run) (κ, tt) (s, tt) tt l)))) (id⊢ 𝓤 _) $ await ! tt $ pick ! (λ l.
-        split ! $ move ! (1 ∷ []) $ use1 W (raw (fact 𝓤 (l ≡ imageListing (now s)))) (said l) $ heard ! (l ≡ imageListing (now s)) (λ e. split ! $ move ! (1 ∷ []) $
+        split ! $ move ! (1 ∷ []) $ use1 W (raw (fact 𝓤 (l ≡ imageListing spi (now s)))) (said l) $ heard ! (l ≡ imageListing spi (now s)) (λ e. split ! $ move ! (1 ∷ []) $
         -- [what the listing owns; the token; what s owns; room for _2; …; _1; …; room for _0; …]
         peeks ! S.the-row (Is S.the-row) (shows 𝓤 H A S.the-row) l (u ∷ []) (λ is.
         land ! (from ! (stop !)) (init ! 3 refl (EL.lawful S.the-type S′.the-laws 𝓤 H A W tt .typed l _ is .0)) $

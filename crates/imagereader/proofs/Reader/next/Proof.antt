@@ -1,4 +1,4 @@
--- `Reader::next` meets its contract: a walk of its MIR, by hand. The borrow is opened, `take` is called on the image and the listing, of which the proof knows only its contract, the listing after the write is stored, and the borrow is closed at the struct with that listing.
+-- `Reader::next` meets its contract: a walk of its MIR, by hand. The borrow is opened, `next_result` is called on the image and the listing, of which the proof knows only its contract, the listing after the write is stored, and the borrow is closed at the struct with that listing.
 -- What the struct owns is had twice: one copy goes to the callee, beside the token of the image's lifetime, and the other is what the struct owns again once the listing is put in its place.
 use mathlib.Core.Path.{_≡_, refl, ap}
 use Prim.Native.Nat.{ℕ}
@@ -46,18 +46,18 @@ use Rattle.writes.proofs.cursor.Listing as S
 use Rattle.writes.proofs.cursor.Listing.Laws as S′
 use Rattle.packets.proofs.trace.WriteAnswer as R
 use Rattle.packets.proofs.trace.WriteAnswer.Laws as R′
-use Rattle.imagereader.specs.Reader.{takenBy}
-use Rattle.imagereader.specs.declared.Reader.{Reader}
-use Rattle.imagereader.specs.declared.Taken.{Taken}
+use Rattle.imagereader.specs.Imagereader.{nextOf}
+use Rattle.imagereader.specs.Types.{Reader}
+use Rattle.imagereader.specs.declared.NextResult.{NextResult}
 use Rattle.imagereader.proofs.Shared.{slice}
 use Rattle.imagereader.proofs.Reader as T
 use Rattle.imagereader.proofs.Reader.Laws as T′
-use Rattle.imagereader.proofs.Taken as K
-use Rattle.imagereader.proofs.Taken.Laws as K′
-use Rattle.imagereader.proofs.take as take
-use Rattle.imagereader.proofs.take.Symbol as take-def
-use Rattle.imagereader.proofs.take.Symbol.{name as #imagereader·take}
-use Rattle.imagereader.proofs.take.Met as take-thm
+use Rattle.imagereader.proofs.NextResult as K
+use Rattle.imagereader.proofs.NextResult.Laws as K′
+use Rattle.imagereader.proofs.next_result as next-result
+use Rattle.imagereader.proofs.next_result.Symbol as next-result-def
+use Rattle.imagereader.proofs.next_result.Symbol.{name as #imagereader·next-result}
+use Rattle.imagereader.proofs.next_result.Met as next-result-thm
 use Rattle.imagereader.proofs.Reader.next.Key.{name as #imagereader·Reader·next}
 use Rattle.imagereader.proofs.Reader.next as next
 use Rattle.imagereader.proofs.Reader.next.Statement as stated
@@ -80,7 +80,7 @@ stayed = (stay-ref (0 ∷ []) tt behind, tt)
 module _ {M : Type 1} (𝓤 : URA M) (H : Heap 𝓤) (A : Atoms 𝓤) (at-mem : Memory → SProp 𝓤) (run : Routine → Fun 𝓤) where
   -- the contract that the proof cites
   abbrev Take : Contract 𝓤
-  Take = tripleOf 𝓤 H A take.signature (take.spec 𝓤 H A at-mem run)
+  Take = tripleOf 𝓤 H A next-result.signature (next-result.spec 𝓤 H A at-mem run)
 
 module _ {M : Type 1} (𝓤 : URA M) (H : Heap 𝓤) (A : Atoms 𝓤) (W : Given 𝓤 H A) (at-mem : Memory → SProp 𝓤) (run : Routine → Fun 𝓤) (κ κ′ : Lft) (q q′ : Share) (bounds : AllOutlive 2 (next.signature .outlives) (κ, (κ′, tt))) (b o : ℕ) (γ : GName) (h : Reader) where
   -- the struct's type and laws, h's fields' values and its machine value
@@ -96,8 +96,8 @@ module _ {M : Type 1} (𝓤 : URA M) (H : Heap 𝓤) (A : Atoms 𝓤) (W : Given
   abbrev mach : Val
   mach = LL.val D L h
 
-  abbrev found : Taken
-  found = takenBy h
+  abbrev found : NextResult
+  found = nextOf h
 
   abbrev x : RefT Reader × Unit {0}
   x = (record { ptr = (b, o); name = γ; now = h }, tt)
@@ -112,13 +112,13 @@ module _ {M : Type 1} (𝓤 : URA M) (H : Heap 𝓤) (A : Atoms 𝓤) (W : Given
   Own = B κ′ .own h (mach ∷ [])
 
   -- what the callee is passed, and what is known of its result
-  abbrev passed : Vals take.signature (κ′, tt)
+  abbrev passed : Vals next-result.signature (κ′, tt)
   passed = (slice (h .image) ∷ [], (EL.vals S.the-type S′.the-laws (h .listing), tt))
 
   abbrev to : Take 𝓤 H A at-mem run .Ghost
   to = (((κ′, tt), (q′, tt), tt, (h .image, (h .listing, tt)), passed), tt)
 
-  asked : ent 𝓤 (onEntry 𝓤 H A take.signature (κ′, tt) (q′, tt) (h .image, (h .listing, tt)) passed) (Take 𝓤 H A at-mem run .pre to)
+  asked : ent 𝓤 (onEntry 𝓤 H A next-result.signature (κ′, tt) (q′, tt) (h .image, (h .listing, tt)) passed) (Take 𝓤 H A at-mem run .pre to)
   asked = qed W ((‵ (flft κ′ q′) ⊛ ‵ ftrue) ∷ ‵ (owns (ShrSlice (named 0) κ′ u8 ∷ S.the-row ∷ []) (h .image, (h .listing, tt)) passed) ∷ []) ∵ join ! $ frame ! $ done !
 
   apart : ent 𝓤 (⋆ 𝓤 H A (‵ Own ∷ (‵ (flft κ′ q′) ⊛ ‵ ftrue) ∷ [])) (sep 𝓤 (Take 𝓤 H A at-mem run .pre to) (sem 𝓤 H A Own))
@@ -128,10 +128,10 @@ module _ {M : Type 1} (𝓤 : URA M) (H : Heap 𝓤) (A : Atoms 𝓤) (W : Given
       -- the callee takes the fields in their order
       move ! (2 ∷ 0 ∷ []) $ use2 W (raw (Take 𝓤 H A at-mem run .pre to)) asked $ frame ! $ done !)
 
-  said : (t : Taken) → ent 𝓤 (ensured 𝓤 H A take.ended (take.clauses 𝓤 H A at-mem run) (κ′, tt) (h .image, (h .listing, tt)) tt t) (fact 𝓤 (t ≡ found))
-  said t = exE 𝓤 _ (λ ws. snd∗ 𝓤 (sem 𝓤 H A (lasts take.ended (κ′, tt) (h .image, (h .listing, tt)) ws)) (fact 𝓤 (t ≡ found)))
+  said : (t : NextResult) → ent 𝓤 (ensured 𝓤 H A next-result.ended (next-result.clauses 𝓤 H A at-mem run) (κ′, tt) (h .image, (h .listing, tt)) tt t) (fact 𝓤 (t ≡ found))
+  said t = exE 𝓤 _ (λ ws. snd∗ 𝓤 (sem 𝓤 H A (lasts next-result.ended (κ′, tt) (h .image, (h .listing, tt)) ws)) (fact 𝓤 (t ≡ found)))
 
-  module _ (t : Taken) where
+  module _ (t : NextResult) where
     -- the struct after the write
     abbrev h′ : Reader
     h′ = record { image = h .image; listing = t .listing }
@@ -149,10 +149,10 @@ module _ {M : Type 1} (𝓤 : URA M) (H : Heap 𝓤) (A : Atoms 𝓤) (W : Given
     exits e =
         qed W (‵ (fobs γ (B κ′ .coded .code h′)) ∷ ‵ (fbor κ (Body (mem (B κ′)) b o γ)) ∷ ‵ (flft κ q) ∷ ‵ (R.the-row .own (t .answer) (answer ∷ [])) ∷ (‵ (flft κ′ q′) ⊛ ‵ ftrue) ∷ []) ∵
         suffices ! _ (ends-at 𝓤 H A next.ended stayed (next.clauses 𝓤 H A at-mem run) W (((κ, (κ′, tt)), (q, (q′, tt)), bounds, x, at), tt) answer (t .answer) (h′, tt) (tt, tt)) $
-        says ! (ap (λ (t : Taken). t .answer) e, ap (λ (t : Taken). record { image = h .image; listing = t .listing }) e) $
+        says ! (ap (λ (t : NextResult). t .answer) e, ap (λ (t : NextResult). record { image = h .image; listing = t .listing }) e) $
         move ! (2 ∷ 4 ∷ []) $ join ! $ frame ! $ feqI ! (List Val) (vptr b o ∷ []) (vptr b o ∷ []) refl $ fjoin3 ! $ nothing ! $ move ! (1 ∷ 0 ∷ []) $ fjoin ! $ done !
 
-  module _ (C : Calls 𝓤 H) (Λ : Loops 𝓤 H) (fm : FmC 𝓤 H (W .laws) C) (known : Triple 𝓤 (C #imagereader·take) (Take 𝓤 H A at-mem run)) where
+  module _ (C : Calls 𝓤 H) (Λ : Loops 𝓤 H) (fm : FmC 𝓤 H (W .laws) C) (known : Triple 𝓤 (C #imagereader·next-result) (Take 𝓤 H A at-mem run)) where
     walk : ent 𝓤 (onEntry 𝓤 H A next.signature (κ, (κ′, tt)) (q, (q′, tt)) x at) (WpFn 𝓤 H C Λ code.function (vptr b o ∷ []) Post)
     walk =
         qed W ((‵ (flft κ q) ⊛ ‵ (flft κ′ q′) ⊛ ‵ ftrue) ∷ ‵ (owns (MutRef (named 0) κ (B κ′) ∷ []) x at) ∷ []) ∵ enter ! C Λ code.function (vptr b o ∷ []) _ $
@@ -165,7 +165,7 @@ module _ {M : Type 1} (𝓤 : URA M) (H : Heap 𝓤) (A : Atoms 𝓤) (W : Given
         assigns ! (of-opd ! (load ! (from ! (hop ! (look ! 13 refl) (fld ! refl (stop !)))) (look-in ! 0 (sub ! 1 refl (whole !))))) (from ! (stop !)) (init ! 7 refl (EL.lawful S.the-type S′.the-laws 𝓤 H A W tt .typed (h .listing) _ (LL.owed D L h _ was .1 .0) .0)) $
         move ! (1 ∷ 5 ∷ []) $ use2 W (raw (Take 𝓤 H A at-mem run .pre to) ⊛ ‵ Own) apart $ split ! $
         calls-at ! fm (Take 𝓤 H A at-mem run) known to (and-then ! (load ! (from ! (stop !)) (look ! 9 refl)) (and-then ! (load ! (from ! (stop !)) (look ! 7 refl)) (no-more !))) (λ u.
-        use1 W (later (some (λ (t : Taken). ((‵ (flft κ′ q′) ⊛ ‵ ftrue) ⊛ ‵ (K.the-row .own t (u ∷ []))) ⊛ raw (ensured 𝓤 H A take.ended (take.clauses 𝓤 H A at-mem run) (κ′, tt) (h .image, (h .listing, tt)) tt t)))) (id⊢ 𝓤 _) $ await ! tt $ pick ! (λ t.
+        use1 W (later (some (λ (t : NextResult). ((‵ (flft κ′ q′) ⊛ ‵ ftrue) ⊛ ‵ (K.the-row .own t (u ∷ []))) ⊛ raw (ensured 𝓤 H A next-result.ended (next-result.clauses 𝓤 H A at-mem run) (κ′, tt) (h .image, (h .listing, tt)) tt t)))) (id⊢ 𝓤 _) $ await ! tt $ pick ! (λ t.
         split ! $ move ! (1 ∷ []) $ use1 W (raw (fact 𝓤 (t ≡ found))) (said t) $ heard ! (t ≡ found) (λ e. split ! $ move ! (1 ∷ []) $
         -- [what is taken; 'a's token; what the struct owns; its cell; the open borrow; obs; auth; true; _4; …; _3; …; room for _2; …; _1; …; room for _0; …]
         peeks ! K.the-row (Is K.the-row) (shows 𝓤 H A K.the-row) t (u ∷ []) (λ is. land ! (from ! (stop !)) (init ! 12 refl (LL.lawful K.the-type K′.the-laws 𝓤 H A W .typed t _ is .0)) $
@@ -180,13 +180,13 @@ module _ {M : Type 1} (𝓤 : URA M) (H : Heap 𝓤) (A : Atoms 𝓤) (W : Given
         move ! (15 ∷ 16 ∷ []) $ free1 ! $ move ! (13 ∷ 14 ∷ []) $ free1 ! $ move ! (11 ∷ 12 ∷ []) $ free1 ! $ move ! (9 ∷ 10 ∷ []) $ free1 ! $ move ! (7 ∷ 8 ∷ []) $ free1 ! $ free0 ! $ keep ! (0 ∷ 1 ∷ 2 ∷ 4 ∷ 5 ∷ []) $ by ! (exits t e)))))))))))))
 
 module _ {M : Type 1} (𝓤 : URA M) (H : Heap 𝓤) (A : Atoms 𝓤) (W : Given 𝓤 H A) (mem : Memory → SProp 𝓤) (run : Routine → Fun 𝓤) where
-  next-walks : (C : Calls 𝓤 H) (Λ : Loops 𝓤 H) → FmC 𝓤 H (W .laws) C → Triple 𝓤 (C #imagereader·take) (Take 𝓤 H A mem run)
+  next-walks : (C : Calls 𝓤 H) (Λ : Loops 𝓤 H) → FmC 𝓤 H (W .laws) C → Triple 𝓤 (C #imagereader·next-result) (Take 𝓤 H A mem run)
       → Walks 𝓤 H A next.ended stayed (WpFn 𝓤 H C Λ code.function) (next.clauses 𝓤 H A mem run)
   next-walks C Λ fm known = walked 𝓤 H A next.ended stayed (next.clauses 𝓤 H A mem run) (WpFn 𝓤 H C Λ code.function) (λ κs. (ptr-vals, tt)) (λ κs. (mut-tells (named 0) (κs .0) (B (κs .1 .0)), tt))
       (λ κs qs bounds a g are. via 𝓤 _ (fst∗ 𝓤 _ (emp 𝓤)) (walk 𝓤 H A W mem run (κs .0) (κs .1 .0) (qs .0) (qs .1 .0) bounds (a .0 .ptr .0) (a .0 .ptr .1) (a .0 .name) (a .0 .now) C Λ fm known))
 
 next-meets : {M : Type 1} (𝓤 : URA M) (H : Heap 𝓤) (A : Atoms 𝓤) (W : Given 𝓤 H A) (mem : Memory → SProp 𝓤) (run : Routine → Fun 𝓤) (𝓣 : Tables 𝓤 H)
-    → Triple 𝓤 (𝓣 .C #imagereader·take) (Take 𝓤 H A mem run)
+    → Triple 𝓤 (𝓣 .C #imagereader·next-result) (Take 𝓤 H A mem run)
     → Meets 𝓤 H A next.signature (WpFn 𝓤 H (𝓣 .C) (𝓣 .Λ) code.function) (next.spec 𝓤 H A mem run)
 next-meets 𝓤 H A W mem run 𝓣 known = walk-meets 𝓤 H A next.ended stayed W (goes-ref 𝓤 H A W 2 0 tt behind, tt) (next.clauses 𝓤 H A mem run) (WpFn 𝓤 H (𝓣 .C) (𝓣 .Λ) code.function) (WpFn-mono 𝓤 H (W .laws) 𝓣 code.function)
     (next-walks 𝓤 H A W mem run (𝓣 .C) (𝓣 .Λ) (fmOf 𝓤 H (W .laws) 𝓣) known)
@@ -197,4 +197,4 @@ next-spec 𝓤 H 𝓜 𝓖 𝓡 =
     entered 𝓤 H (tripleOf 𝓤 H (𝓖 .A) next.signature (next.spec 𝓤 H (𝓖 .A) (𝓜 .mem) (𝓡 .run)))
     (tables 𝓤 H 𝓜 𝓡 code.env .C) (tables 𝓤 H 𝓜 𝓡 code.env .Λ) #imagereader·Reader·next code.function (code.unfolded 𝓤 H 𝓜 𝓡)
     (next-meets 𝓤 H (𝓖 .A) (givenOf 𝓤 H 𝓜 𝓖) (𝓜 .mem) (𝓡 .run) (tablesOf 𝓤 H 𝓜 (tables 𝓤 H 𝓜 𝓡 code.env))
-    (cited 𝓤 H (Take 𝓤 H (𝓖 .A) (𝓜 .mem) (𝓡 .run)) 𝓜 𝓡 code.env #imagereader·take take-def.routine code.calls-imagereader·take (take-thm.met 𝓤 H 𝓜 𝓖 𝓡)))
+    (cited 𝓤 H (Take 𝓤 H (𝓖 .A) (𝓜 .mem) (𝓡 .run)) 𝓜 𝓡 code.env #imagereader·next-result next-result-def.routine code.calls-imagereader·next-result (next-result-thm.met 𝓤 H 𝓜 𝓖 𝓡)))

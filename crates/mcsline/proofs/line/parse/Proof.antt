@@ -2,7 +2,9 @@
 use Rattle.mcsline.proofs.ShapeLaws.{shape-none, shape-some, orderly-count, parsed-sum, parsed-typed}
 use Rattle.mcsline.proofs.TypeLaws.{linePairs}
 use Rattle.mcsline.specs.Place.{lineAt, Orderly, asLine}
-use Rattle.digits.specs.Digit.{total}
+use Rattle.digits.specs.Digit.{byteSum}
+use Prim.Native.Nat.{ℕ}
+use mathlib.Core.List.{List}
 use mathlib.Core.Path.{_≡_, refl, sym, ap₂, _∙_}
 use borrow.Author.Needs.{needs}
 use Rattle.mcsline.proofs.line.parse.Statement.{statement}
@@ -21,37 +23,39 @@ returns : tie.Need-returns
 unfolding asLine
 returns c = rw (shape-none (c .before .before .before .before .before .args .text .now) (c .before .before .before .before .before .args .at) _ (c .before .before .shape-of .ensures) (c .enum-told .given .1)) refl
 
+-- Where the characters are in order: the pairs that the line spells, and what they add to.
+module _ (c : tie.After-shaped) where
+  abbrev text : List ℕ
+  text = c .before .before .before .before .before .args .text .now
+
+  abbrev at : ℕ
+  at = c .before .before .before .before .before .args .at
+
+  abbrev count : ℕ
+  count = c .shaped .given .0 .0
+
+  abbrev end : ℕ
+  end = c .shaped .given .0 .1 .1 .0
+
+  ordered : Orderly text at count end × (c .shaped .given .0 .1 .0 ≡ byteSum (linePairs text at count))
+  ordered = shape-some text at _ count (c .shaped .given .0 .1 .0) end (c .before .before .shape-of .ensures) (c .shaped .given .1)
+
 returns-2 : tie.Need-returns-2
 unfolding asLine
 returns-2 c =
-    let text = c .before .before .before .before .before .before .before .args .text .now in
-    let at = c .before .before .before .before .before .before .before .args .at in
-    let count = c .before .before .shaped .given .0 .0 in
-    let sum = c .before .before .shaped .given .0 .1 .0 in
-    let end = c .before .before .shaped .given .0 .1 .1 .0 in
-    let o : Orderly text at count end × (sum ≡ total (linePairs text at count)) = shape-some text at _ count sum end (c .before .before .before .before .shape-of .ensures) (c .before .before .shaped .given .1) in
-    rw (parsed-sum (lineAt text at) (linePairs text at count) (o .0 .spells) (orderly-count text at count end (o .0)) (λ h. c .if1 .taken (rw (o .1) h))) refl
+    let line = c .before .before in
+    let o = ordered line in
+    rw (parsed-sum (lineAt (text line) (at line)) (linePairs (text line) (at line) (count line)) (o .0 .spells) (orderly-count (text line) (at line) (count line) (end line) (o .0)) (λ h. c .if1 .taken (rw (o .1) h))) refl
 
 typed-line-requires : tie.Need-typed-line-requires
-typed-line-requires c κs =
-    let text = c .before .before .before .before .before .before .before .args .text .now in
-    let at = c .before .before .before .before .before .before .before .args .at in
-    let count = c .before .before .shaped .given .0 .0 in
-    let sum = c .before .before .shaped .given .0 .1 .0 in
-    let end = c .before .before .shaped .given .0 .1 .1 .0 in
-    let o : Orderly text at count end × (sum ≡ total (linePairs text at count)) = shape-some text at _ count sum end (c .before .before .before .before .shape-of .ensures) (c .before .before .shaped .given .1) in
-    (o .0 .long, o .0 .counted, search needs)
+typed-line-requires c κs = let o = ordered (c .before .before) in (o .0 .long, o .0 .counted, search needs)
 
 returns-3 : tie.Need-returns-3
 returns-3 c =
-    let text = c .before .before .before .before .before .before .before .before .args .text .now in
-    let at = c .before .before .before .before .before .before .before .before .args .at in
-    let count = c .before .before .before .shaped .given .0 .0 in
-    let sum = c .before .before .before .shaped .given .0 .1 .0 in
-    let end = c .before .before .before .shaped .given .0 .1 .1 .0 in
-    let o : Orderly text at count end × (sum ≡ total (linePairs text at count)) = shape-some text at _ count sum end (c .before .before .before .before .before .shape-of .ensures) (c .before .before .before .shaped .given .1) in
+    let line = c .before .before .before in
+    let o = ordered line in
     c .typed-line .ensures
-    ∙ ap₂ asLine (sym (parsed-typed (lineAt text at) (linePairs text at count) (o .0 .spells) (orderly-count text at count end (o .0)) (rw (o .1) at (c .before .if1 .left)))) (o .0 .ends)
+    ∙ ap₂ asLine (sym (parsed-typed (lineAt (text line) (at line)) (linePairs (text line) (at line) (count line)) (o .0 .spells) (orderly-count (text line) (at line) (count line) (end line) (o .0)) (rw (o .1) at (c .before .if1 .left)))) (o .0 .ends)
 
 pub parse-spec : {M : Type 1} → statement M
 parse-spec =

@@ -9,16 +9,19 @@ use borrow.Author.Needs.{needs}
 use Rattle.mcsline.proofs.line.parse_sound.Statement.{statement}
 use Rattle.mcsline.proofs.line.parse_sound.Tie as tie
 
+-- What a line that passes says of its characters: they are in order, and its pairs end within the text.
+module _ (c : tie.Start) where
+  formed : Formed (c .args .text .now) (c .args .at)
+  formed = sound-formed (c .args .text .now) (c .args .at) (c .pre .0) (c .pre .1)
+
+  long : afterPairs (c .args .text .now) (c .args .at) + 1 ≤ length (c .args .text .now)
+  long = formed-long (c .args .text .now) (c .args .at) (c .pre .0) formed
+
 add-pair : tie.Need-add-pair
 add-pair c = search needs
 
 pair-requires : tie.Need-pair-requires
-pair-requires c κs =
-    let text = c .before .before .args .text .now in
-    let at = c .before .before .args .at in
-    let f : Formed text at = sound-formed text at (c .before .before .pre .0) (c .before .before .pre .1) in
-    let l : afterPairs text at + 1 ≤ length text = formed-long text at (c .before .before .pre .0) f in
-    (omega arith, search needs)
+pair-requires c κs = let l = long (c .before .before) in (omega arith, search needs)
 
 cast-count : tie.Need-cast-count
 cast-count c = search needs
@@ -33,38 +36,23 @@ add-after-2 : tie.Need-add-after-2
 add-after-2 c = search needs
 
 ending-requires : tie.Need-ending-requires
-ending-requires c κs =
-    let text = c .before .before .before .args .text .now in
-    let at = c .before .before .before .args .at in
-    let f : Formed text at = sound-formed text at (c .before .before .before .pre .0) (c .before .before .before .pre .1) in
-    let l : afterPairs text at + 1 ≤ length text = formed-long text at (c .before .before .before .pre .0) f in
-    omega arith
+ending-requires c κs = let l = long (c .before .before .before) in omega arith
 
 add-end : tie.Need-add-end
-add-end c =
-    let text = c .before .before .before .before .args .text .now in
-    let at = c .before .before .before .before .args .at in
-    let f : Formed text at = sound-formed text at (c .before .before .before .before .pre .0) (c .before .before .before .before .pre .1) in
-    let l : afterPairs text at + 1 ≤ length text = formed-long text at (c .before .before .before .before .pre .0) f in
-    record { fits = omega arith }
+add-end c = let l = long (c .before .before .before .before) in record { fits = omega arith }
 
 typed-line-requires : tie.Need-typed-line-requires
-typed-line-requires c κs =
-    let text = c .before .before .before .before .args .text .now in
-    let at = c .before .before .before .before .args .at in
-    let f : Formed text at = sound-formed text at (c .before .before .before .before .pre .0) (c .before .before .before .before .pre .1) in
-    let l : afterPairs text at + 1 ≤ length text = formed-long text at (c .before .before .before .before .pre .0) f in
-    (omega arith, c .before .pair .ensures .0, search needs)
+typed-line-requires c κs = let l = long (c .before .before .before .before) in (omega arith, c .before .pair .ensures .0, search needs)
 
 returns : tie.Need-returns
 returns c =
-    let text = c .before .before .before .before .before .args .text .now in
-    let at = c .before .before .before .before .before .args .at in
-    let f : Formed text at = sound-formed text at (c .before .before .before .before .before .pre .0) (c .before .before .before .before .before .pre .1) in
-    let l : afterPairs text at + 1 ≤ length text = formed-long text at (c .before .before .before .before .before .pre .0) f in
+    let start = c .before .before .before .before .before in
+    let text = start .args .text .now in
+    let at = start .args .at in
+    let l = long start in
     let count = c .before .before .pair .result in
-    let o : Orderly text at count (at + 2 * count + 11 + c .before .ending .result) = rw (c .before .ending .ensures .0, c .before .before .pair .ensures .0) (orderly text at (c .before .before .before .before .before .pre .0) f) in
-    c .typed-line .ensures ∙ ap₂ asLine (sym (sound-typed text at count _ o (c .before .before .before .before .before .pre .1))) (o .ends)
+    let o : Orderly text at count (at + 2 * count + 11 + c .before .ending .result) = rw (c .before .ending .ensures .0, c .before .before .pair .ensures .0) (orderly text at (start .pre .0) (formed start)) in
+    c .typed-line .ensures ∙ ap₂ asLine (sym (sound-typed text at count _ o (start .pre .1))) (o .ends)
 
 pub parse-sound-spec : {M : Type 1} → statement M
 parse-sound-spec =

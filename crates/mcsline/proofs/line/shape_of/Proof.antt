@@ -1,7 +1,7 @@
 -- `line::shape_of` meets its contract: each refusal is for want of one of the characters that a line has.
 use Rattle.digits.proofs.Laws.{summed-pairs, summed-none}
 use Rattle.mcsline.proofs.ShapeLaws.{afterPairs, unformed-by, formed-long, shaped}
-use Rattle.digits.specs.Digit.{total}
+use Rattle.digits.specs.Digit.{byteSum}
 use Rattle.digits.specs.Pairs.{ArePairs, pairsAt}
 use Rattle.mcsline.specs.Place.{endingAt, ShapeIs}
 use lib.ListN.{length}
@@ -105,7 +105,7 @@ returns-6 c =
     let text = c .before .before .before .before .before .before .before .before .before .before .before .before .before .args .text .now in
     let at = c .before .before .before .before .before .before .before .before .before .before .before .before .before .args .at in
     let count = c .before .before .before .before .before .before .before .pair .result in
-    let s : ArePairs text (at + 1) (count + 5) × (c .before .before .before .summed .given .0 .0 ≡ total (pairsAt text (at + 1) (count + 5))) =
+    let s : ArePairs text (at + 1) (count + 5) × (c .before .before .before .summed .given .0 .0 ≡ byteSum (pairsAt text (at + 1) (count + 5))) =
     summed-pairs text (at + 1) (count + 5) _ _ (c .before .before .before .before .before .sum-pairs .ensures) (c .before .before .before .summed .given .1) in
     (shaped text at count (c .before .ending .result) (c .before .before .before .before .before .before .before .before .before .before .before .before .before .pre .0) (c .before .before .before .before .before .before .before .before .if2 .left) (c .before .before .before .before .before .before .before .pair .ensures .0) (s .0) (c .before .ending .ensures .0) (c .if4 .left), s .1)
 

@@ -1,5 +1,5 @@
 -- `line::typed_line` meets its contract: each return by the case of the definition that its type names.
-use Rattle.mcsline.proofs.TypeLaws.{data-typed, end-typed, upper-typed, other-typed}
+use Rattle.mcsline.proofs.TypeLaws.{data-typed, end-typed, extended-typed, other-typed}
 use mathlib.Core.Path.{sym, _∙_}
 use borrow.Author.Needs.{needs}
 use Rattle.mcsline.proofs.line.typed_line.Statement.{statement}
@@ -22,41 +22,29 @@ data-line-requires c κs = search needs
 
 returns : tie.Need-returns
 returns c =
-    let text = c .before .before .before .before .before .before .args .text .now in
-    let at = c .before .before .before .before .before .before .args .at in
-    let count = c .before .before .before .before .before .before .args .count in
-    let end = c .before .before .before .before .before .before .args .end in
-    c .data-line .ensures ∙ sym (data-typed text at count end _ _ (c .before .before .before .before .before .before .pre .1) (c .before .before .pair .ensures .0) (c .before .before .before .two-pairs .ensures) (c .before .if1 .taken))
+    let begun = c .before .before .before .before .before .before in
+    c .data-line .ensures ∙ sym (data-typed (begun .args .text .now) (begun .args .at) (begun .args .count) (begun .args .end) _ _ (begun .pre .1) (c .before .before .pair .ensures .0) (c .before .before .before .two-pairs .ensures) (c .before .if1 .taken))
 
 end-line-requires : tie.Need-end-line-requires
 end-line-requires c κs = search needs
 
 returns-2 : tie.Need-returns-2
 returns-2 c =
-    let text = c .before .before .before .before .before .before .before .args .text .now in
-    let at = c .before .before .before .before .before .before .before .args .at in
-    let count = c .before .before .before .before .before .before .before .args .count in
-    let end = c .before .before .before .before .before .before .before .args .end in
-    c .end-line .ensures ∙ sym (end-typed text at count end _ _ (c .before .before .before .before .before .before .before .pre .1) (c .before .before .before .pair .ensures .0) (c .before .before .before .before .two-pairs .ensures) (c .before .if2 .taken))
+    let begun = c .before .before .before .before .before .before .before in
+    c .end-line .ensures ∙ sym (end-typed (begun .args .text .now) (begun .args .at) (begun .args .count) (begun .args .end) _ _ (begun .pre .1) (c .before .before .before .pair .ensures .0) (c .before .before .before .before .two-pairs .ensures) (c .before .if2 .taken))
 
-upper-line-requires : tie.Need-upper-line-requires
-upper-line-requires c κs = search needs
+extended-address-line-requires : tie.Need-extended-address-line-requires
+extended-address-line-requires c κs = search needs
 
 returns-3 : tie.Need-returns-3
 returns-3 c =
-    let text = c .before .before .before .before .before .before .before .before .args .text .now in
-    let at = c .before .before .before .before .before .before .before .before .args .at in
-    let count = c .before .before .before .before .before .before .before .before .args .count in
-    let end = c .before .before .before .before .before .before .before .before .args .end in
-    c .upper-line .ensures ∙ sym (upper-typed text at count end _ _ (c .before .before .before .before .before .before .before .before .pre .1) (c .before .before .before .before .pair .ensures .0) (c .before .before .before .before .before .two-pairs .ensures) (c .before .if3 .taken))
+    let begun = c .before .before .before .before .before .before .before .before in
+    c .extended-address-line .ensures ∙ sym (extended-typed (begun .args .text .now) (begun .args .at) (begun .args .count) (begun .args .end) _ _ (begun .pre .1) (c .before .before .before .before .pair .ensures .0) (c .before .before .before .before .before .two-pairs .ensures) (c .before .if3 .taken))
 
 returns-4 : tie.Need-returns-4
 returns-4 c =
-    let text = c .before .before .before .before .before .before .before .args .text .now in
-    let at = c .before .before .before .before .before .before .before .args .at in
-    let count = c .before .before .before .before .before .before .before .args .count in
-    let end = c .before .before .before .before .before .before .before .args .end in
-    sym (other-typed text at count end _ _ (c .before .before .before .before .before .before .before .pre .1) (c .before .before .before .pair .ensures .0) (c .before .before .before .before .two-pairs .ensures) (c .before .before .if1 .left) (c .before .if2 .left) (c .if3 .left))
+    let begun = c .before .before .before .before .before .before .before in
+    sym (other-typed (begun .args .text .now) (begun .args .at) (begun .args .count) (begun .args .end) _ _ (begun .pre .1) (c .before .before .before .pair .ensures .0) (c .before .before .before .before .two-pairs .ensures) (c .before .before .if1 .left) (c .before .if2 .left) (c .if3 .left))
 
 pub typed-line-spec : {M : Type 1} → statement M
 typed-line-spec =
@@ -70,6 +58,6 @@ typed-line-spec =
     returns
     end-line-requires
     returns-2
-    upper-line-requires
+    extended-address-line-requires
     returns-3
     returns-4)

@@ -4,7 +4,8 @@ use mathlib.Core.Path.{refl, ap, _∙_}
 use mathlib.Core.List.{List}
 use native.Mathlib.Omega.{arith}
 use lib.ListN.{length}
-use Rattle.comparison.specs.Comparison.{filled, differs, comparison}
+use Rattle.comparison.specs.Comparison.{padded, differs}
+use Rattle.comparison.specs.Internal.{comparison}
 use borrow.Author.Needs.{needs}
 use Rattle.orders.proofs.judging.compare_look.Statement.{statement}
 use Rattle.orders.proofs.judging.compare_look.Tie as tie
@@ -25,7 +26,7 @@ returns : tie.Need-returns
 returns c =
     let args = c .before .before .before .before .before .args in
     let bytes = args .bytes .now in
-    c .compare .ensures ∙ ap (λ (must : List ℕ). comparison (differs (args .place) bytes (filled (length bytes) must))) (c .before .carried-bytes .ensures)
+    c .compare .ensures ∙ ap (λ (expected : List ℕ). comparison (differs (args .place) bytes (padded (length bytes) expected))) (c .before .carried-bytes .ensures)
 
 pub compare-look-spec : {M : Type 1} → statement M
 compare-look-spec =

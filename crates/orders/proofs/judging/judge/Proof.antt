@@ -6,11 +6,12 @@ use native.Mathlib.Omega.{arith}
 use borrow.Author.Tests.{not-true, not-false}
 use lib.ListN.{length}
 use Rattle.base.specs.Question.{ask}
-use Rattle.chip.specs.Kind.{spi}
-use Rattle.comparison.specs.Comparison.{differs, comparison}
+use Rattle.kind.specs.Spi.{spi}
+use Rattle.comparison.specs.Comparison.{differs}
+use Rattle.comparison.specs.Internal.{comparison}
 use Rattle.orders.specs.Orders.{orderOf, operationOf}
 use Rattle.orders.specs.Judging.{judgedLook}
-use Rattle.orders.specs.declared.Operation.the-variants.{Look}
+use Rattle.orders.specs.Types.{Look}
 use Rattle.orders.proofs.CarriedLaws.{Looks, looks}
 use Rattle.orders.proofs.JudgingLaws.{asked-for, onOperation, judged-by}
 use borrow.Author.Needs.{needs}
@@ -47,7 +48,7 @@ unfolding onOperation ask
 returns c =
     let args = c .before .before .before .before .before .before .before .before .args in
     let o = sym (the-order (c .before .before .before .before .before)) ∙ c .before .before .before .operation .given .1 in
-    rw (sym (c .before .is-as-asked .ensures) ∙ not-true _ (c .if1 .taken)) at (judged-by _ (args .said) (args .bytes .now) _ o)
+    rw (sym (c .before .is-as-asked .ensures) ∙ not-true _ (c .if1 .taken)) at (judged-by _ (args .reply-kind) (args .bytes .now) _ o)
 
 -- A look that was answered with as many bytes as it asks for.
 the-look : (c : tie.Else1) → Looks (c .before .before .before .before .before .before .before .before .args .layout) (c .before .before .before .before .before .before .before .before .args .image .now) (c .before .before .before .before .before .before .before .before .args .phase) (c .before .before .before .before .before .before .before .before .args .index) (c .before .before .before .operation .given .0 .0) (length (c .before .before .before .before .before .before .before .before .args .bytes .now))
@@ -55,7 +56,7 @@ the-look c =
     let args = c .before .before .before .before .before .before .before .before .args in
     let place = c .before .before .before .operation .given .0 .0 in
     let o = sym (the-order (c .before .before .before .before .before)) ∙ c .before .before .before .operation .given .1 in
-    let asked = asked-for 1 (c .before .before .before .operation .given .0 .1 .0) (args .said) (length (args .bytes .now)) (sym (c .before .is-as-asked .ensures) ∙ not-false _ (c .if1 .left)) in
+    let asked = asked-for 1 (c .before .before .before .operation .given .0 .1 .0) (args .reply-kind) (length (args .bytes .now)) (sym (c .before .is-as-asked .ensures) ∙ not-false _ (c .if1 .left)) in
     looks (args .layout) (args .image .now) (args .phase) (args .index) place (length (args .bytes .now)) (c .before .before .before .before .before .before .before .before .pre .1) (o ∙ ap (Look place) (sym (asked .1)))
 
 compare-look-requires : tie.Need-compare-look-requires
@@ -83,8 +84,8 @@ returns-4 c =
     let o = sym (the-order (c .before .before .before .before .before .before .before)) ∙ c .before .before .before .before .before .operation .given .1 in
     let finds = the-look (c .before .before) .finds in
     c .judge-look .ensures
-    ∙ ap judgedLook (c .before .compare-look .ensures ∙ ap (λ (must : List ℕ). comparison (differs (c .before .before .before .before .before .operation .given .0 .0) bytes must)) (sym finds))
-    ∙ rw (sym (c .before .before .before .is-as-asked .ensures) ∙ not-false _ (c .before .before .if1 .left)) at (judged-by _ (args .said) bytes _ o)
+    ∙ ap judgedLook (c .before .compare-look .ensures ∙ ap (λ (expected : List ℕ). comparison (differs (c .before .before .before .before .before .operation .given .0 .0) bytes expected)) (sym finds))
+    ∙ rw (sym (c .before .before .before .is-as-asked .ensures) ∙ not-false _ (c .before .before .if1 .left)) at (judged-by _ (args .reply-kind) bytes _ o)
 
 pub judge-spec : {M : Type 1} → statement M
 judge-spec =

@@ -5,23 +5,23 @@ use borrow.Author.Needs.{needs}
 use Rattle.report.proofs.boot.report.Statement.{statement}
 use Rattle.report.proofs.boot.report.Tie as tie
 
-boot-requires : tie.Need-boot-requires
-boot-requires c κs = search needs
+answer-requires : tie.Need-answer-requires
+answer-requires c κs = search needs
 
-enum-known-answer : tie.Need-enum-known-answer
-enum-known-answer c = search needs
+enum-known-booted : tie.Need-enum-known-booted
+enum-known-booted c = search needs
 
 report-loaded-requires : tie.Need-report-loaded-requires
-report-loaded-requires c κs = (c .before .before .answer .given .0 .0, sym (c .before .before .answer .given .1) ∙ c .before .before .before .before .boot .ensures)
+report-loaded-requires c κs = sym (c .before .before .booted .given .1) ∙ c .before .before .before .before .answer .ensures
 
-enum-known-answer-2 : tie.Need-enum-known-answer-2
-enum-known-answer-2 c = search needs
+enum-known-booted-2 : tie.Need-enum-known-booted-2
+enum-known-booted-2 c = search needs
 
 report-stuck-requires : tie.Need-report-stuck-requires
 report-stuck-requires c κs = search needs
 
-enum-known-answer-3 : tie.Need-enum-known-answer-3
-enum-known-answer-3 c = search needs
+enum-known-booted-3 : tie.Need-enum-known-booted-3
+enum-known-booted-3 c = search needs
 
 same-length : tie.Need-same-length
 same-length c = search needs
@@ -35,27 +35,27 @@ same-length-2 c = search needs
 returns-2 : tie.Need-returns-2
 returns-2 c =
     let begun = c .before .before .before .before .before .before .before .before .before .before in
-    let stuck = sym (c .before .before .before .before .before .answer2 .given .1) ∙ c .before .before .before .before .before .before .before .boot .ensures in
-    let answer = stuck-answer (begun .args .chip .now) (begun .args .out .now) (c .before .before .before .before .before .answer2 .given .0 .0) stuck in
+    let stuck = sym (c .before .before .before .before .before .booted2 .given .1) ∙ c .before .before .before .before .before .before .before .answer .ensures in
+    let answer = stuck-answer (begun .args .chip .now) (begun .args .out .now) (c .before .before .before .before .before .booted2 .given .0 .0) stuck in
     (c .before .before .report-stuck .ensures .0 ∙ sym (answer .0), c .before .before .report-stuck .ensures .1 ∙ sym (answer .1))
 
 returns-3 : tie.Need-returns-3
 returns-3 c =
     let begun = c .before .before .before .before .before .before in
-    let refused = sym (c .before .answer3 .given .1) ∙ c .before .before .before .boot .ensures in
-    let answer = refused-answer (begun .args .chip .now) (begun .args .out .now) (c .before .answer3 .given .0 .0) (c .before .answer3 .given .0 .1 .0) refused in
+    let refused = sym (c .before .booted3 .given .1) ∙ c .before .before .before .answer .ensures in
+    let answer = refused-answer (begun .args .chip .now) (begun .args .out .now) (c .before .booted3 .given .0 .0) (c .before .booted3 .given .0 .1 .0) refused in
     (sym (answer .0), sym (answer .1))
 
 pub report-spec : {M : Type 1} → statement M
 report-spec =
     tie.close
     (tie.spec
-    boot-requires
-    enum-known-answer
+    answer-requires
+    enum-known-booted
     report-loaded-requires
-    enum-known-answer-2
+    enum-known-booted-2
     report-stuck-requires
-    enum-known-answer-3
+    enum-known-booted-3
     same-length
     returns
     same-length-2

@@ -2,7 +2,7 @@
 use Rattle.fields.proofs.Laws.{Put}
 use Rattle.reportlines.proofs.Laws.{length-stuck}
 use Rattle.report.proofs.AnswerLaws.{no-room, put-answer}
-use Rattle.reportlines.specs.Lines.{stuckLine}
+use Rattle.reportlines.specs.Reportlines.{stuckLine}
 use native.Mathlib.Omega.{arith}
 use mathlib.Core.Path.{sym}
 use borrow.Author.Needs.{needs}

@@ -1,7 +1,7 @@
 -- `refusal::report` meets its contract.
 use Rattle.fields.proofs.Laws.{Put}
 use Rattle.report.proofs.AnswerLaws.{no-room, put-answer}
-use Rattle.reportlines.specs.Lines.{refusedLine}
+use Rattle.reportlines.specs.Reportlines.{refusedLine}
 use lib.Seq.{paste}
 use native.Mathlib.Omega.{arith}
 use mathlib.Core.Path.{sym, ap, _∙_}

@@ -1,5 +1,5 @@
 -- `boot_result` meets its contract.
-use Rattle.results.specs.Results.{bootResult}
+use Rattle.results.specs.Boot.{bootResult}
 use mathlib.Core.Bool.{Bool, true, false, cond}
 use mathlib.Core.Path.{_≡_, refl}
 use mir.Val.{boolByte}

@@ -1,5 +1,5 @@
 -- `image_result` meets its contract.
-use Rattle.results.specs.Results.{imageResult}
+use Rattle.results.specs.Boot.{imageResult}
 use mathlib.Core.Path.{refl}
 use borrow.Author.Needs.{needs}
 use Rattle.results.proofs.boot.image_result.Statement.{statement}

@@ -1,5 +1,5 @@
 -- `write_result` meets its contract.
-use Rattle.results.specs.Results.{writeResult}
+use Rattle.results.specs.Boot.{writeResult}
 use mathlib.Core.Path.{refl}
 use borrow.Author.Needs.{needs}
 use Rattle.results.proofs.boot.write_result.Statement.{statement}

@@ -1,5 +1,5 @@
 -- `build_result` meets its contract.
-use Rattle.results.specs.Results.{buildResult}
+use Rattle.results.specs.Build.{buildResult}
 use mathlib.Core.Path.{refl}
 use borrow.Author.Needs.{needs}
 use Rattle.results.proofs.build.build_result.Statement.{statement}

@@ -1,5 +1,5 @@
 -- `read_result` meets its contract.
-use Rattle.results.specs.Results.{readResult}
+use Rattle.results.specs.Text.{readResult}
 use mathlib.Core.Path.{refl}
 use borrow.Author.Needs.{needs}
 use Rattle.results.proofs.text.read_result.Statement.{statement}

@@ -1,5 +1,5 @@
 -- `bench_result` meets its contract.
-use Rattle.runresults.specs.Results.{benchResult}
+use Rattle.runresults.specs.Cut.{benchResult}
 use mathlib.Core.Path.{refl}
 use borrow.Author.Needs.{needs}
 use Rattle.runresults.proofs.cut.bench_result.Statement.{statement}

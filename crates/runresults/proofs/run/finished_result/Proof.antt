@@ -1,5 +1,5 @@
 -- `finished_result` meets its contract.
-use Rattle.runresults.specs.Results.{finishedResult}
+use Rattle.runresults.specs.Run.{finishedResult}
 use mathlib.Core.Path.{refl}
 use borrow.Author.Needs.{needs}
 use Rattle.runresults.proofs.run.finished_result.Statement.{statement}

@@ -1,5 +1,5 @@
 -- `operation_numbers` meets its contract.
-use Rattle.runresults.specs.Results.{orderedResult}
+use Rattle.runresults.specs.Run.{orderedResult}
 use mathlib.Core.Path.{refl}
 use borrow.Author.Needs.{needs}
 use Rattle.runresults.proofs.run.operation_numbers.Statement.{statement}

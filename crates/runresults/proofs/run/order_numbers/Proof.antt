@@ -1,5 +1,5 @@
 -- `order_numbers` meets its contract.
-use Rattle.runresults.specs.Results.{orderResult}
+use Rattle.runresults.specs.Run.{orderResult}
 use mathlib.Core.Path.{refl}
 use borrow.Author.Needs.{needs}
 use Rattle.runresults.proofs.run.order_numbers.Statement.{statement}

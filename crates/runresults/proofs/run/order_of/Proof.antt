@@ -7,15 +7,14 @@ use lib.ListN.{length}
 use denote.Ref.{now}
 use borrow.Author.Needs.{needs}
 use Rattle.base.specs.Question.{ask}
-use Rattle.chip.specs.Layout.{page}
+use Rattle.kind.specs.Layout.{page}
 use Rattle.flash.specs.Flash.{erased}
-use Rattle.chip.specs.Kind.{spi}
-use Rattle.updater.specs.Run.{running, fits, currentOrder}
+use Rattle.kind.specs.Spi.{spi}
+use Rattle.updater.specs.State.{running, fits, currentOrder}
 use Rattle.orders.specs.Orders.{Order, erase, program, look, operationOf, programmed, orderBytes}
-use Rattle.updater.specs.Answers.{ordered, orderRefused, orderAnswer}
-use Rattle.updater.specs.declared.run.State.{State}
-use Rattle.updater.specs.declared.run.OrderAnswer.{OrderAnswer}
-use Rattle.runresults.specs.Results.{orderedResult, orderResult, orderNumbers}
+use Rattle.updater.specs.Run.{ordered, orderRefused, orderAnswer}
+use Rattle.runresults.specs.Types.{State, OrderAnswer}
+use Rattle.runresults.specs.Run.{orderedResult, orderResult, orderNumbers}
 use Rattle.runresults.proofs.run.order_of.Statement.{statement}
 use Rattle.runresults.proofs.run.order_of.Tie as tie
 
@@ -52,11 +51,11 @@ returns c =
     let told = c .before .before .before .before .order .ensures in
     let numbers = c .before .before .before .order-numbers .ensures in
     let answer = orderAnswer spi (args .state) (now (args .image)) in
-    let other : orderNumbers answer .operation ≡ 2 → ⊥ = λ two. c .before .if1 .taken (ap (λ given. given .operation) (numbers (answer .bytes) ∙ ap (λ given. orderResult (given .asked) (answer .bytes)) told) ∙ two) in
+    let other : orderNumbers answer .operation ≡ 2 → ⊥ = λ two. c .before .if1 .taken (ap (λ given. given .operation) (numbers (answer .bytes) ∙ ap (λ given. orderResult (given .result) (answer .bytes)) told) ∙ two) in
     c .order-result .ensures
     ∙ numbers (erased page)
-    ∙ ap (λ given. orderResult (given .asked) (erased page)) told
-    ∙ ap (orderResult (answer .asked)) (sym (erased-beside (args .state) (now (args .image)) other))
+    ∙ ap (λ given. orderResult (given .result) (erased page)) told
+    ∙ ap (orderResult (answer .result)) (sym (erased-beside (args .state) (now (args .image)) other))
 
 order-result-requires-2 : tie.Need-order-result-requires-2
 order-result-requires-2 c κs = search needs

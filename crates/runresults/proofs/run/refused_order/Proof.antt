@@ -1,6 +1,6 @@
 -- `refused_order` meets its contract.
 use mathlib.Core.Path.{refl}
-use Rattle.runresults.specs.Results.{orderResult}
+use Rattle.runresults.specs.Run.{orderResult}
 use Rattle.runresults.proofs.run.refused_order.Statement.{statement}
 use Rattle.runresults.proofs.run.refused_order.Tie as tie
 

@@ -1,5 +1,5 @@
 -- `reply_of` meets its contract.
-use Rattle.runresults.specs.Results.{replyResult}
+use Rattle.runresults.specs.Run.{replyResult}
 use mathlib.Core.Path.{ap, _∙_}
 use borrow.Author.Needs.{needs}
 use Rattle.runresults.proofs.run.reply_of.Statement.{statement}

@@ -1,5 +1,5 @@
 -- `reply_result` meets its contract.
-use Rattle.runresults.specs.Results.{replyResult}
+use Rattle.runresults.specs.Run.{replyResult}
 use borrow.Author.Needs.{needs}
 use Rattle.runresults.proofs.run.reply_result.Statement.{statement}
 use Rattle.runresults.proofs.run.reply_result.Tie as tie

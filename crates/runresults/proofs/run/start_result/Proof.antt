@@ -1,5 +1,5 @@
 -- `start_result` meets its contract.
-use Rattle.runresults.specs.Results.{startResult}
+use Rattle.runresults.specs.Run.{startResult}
 use mathlib.Core.Path.{refl}
 use borrow.Author.Needs.{needs}
 use Rattle.runresults.proofs.run.start_result.Statement.{statement}

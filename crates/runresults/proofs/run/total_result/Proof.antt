@@ -1,5 +1,5 @@
 -- `total_result` meets its contract.
-use Rattle.runresults.specs.Results.{totalResult}
+use Rattle.runresults.specs.Run.{totalResult}
 use mathlib.Core.Path.{refl}
 use borrow.Author.Needs.{needs}
 use Rattle.runresults.proofs.run.total_result.Statement.{statement}

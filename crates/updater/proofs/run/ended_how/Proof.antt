@@ -1,7 +1,7 @@
 -- `run::ended_how` meets its contract.
 use mathlib.Core.Path.{refl}
 use borrow.Author.Tests.{lt-ltb, le-ltb}
-use Rattle.updater.specs.Answers.{finishedCase}
+use Rattle.updater.specs.Run.{finishedCase}
 use Rattle.updater.proofs.run.ended_how.Statement.{statement}
 use Rattle.updater.proofs.run.ended_how.Tie as tie
 

@@ -1,10 +1,9 @@
 -- `run::reply_judged` meets its contract.
 use mathlib.Core.Path.{refl, ap, _∙_}
 use Prim.Native.Nat.{ℕ}
-use Rattle.updater.specs.Run.{ended}
+use Rattle.updater.specs.State.{ended}
 use Rattle.updater.specs.Judging.{onJudged}
-use Rattle.updater.specs.declared.run.State.{State}
-use Rattle.updater.specs.declared.run.ReplyAnswer.the-variants.{Next, Stopped}
+use Rattle.updater.specs.Types.{State, Next, Stopped}
 use borrow.Author.Needs.{needs}
 use Rattle.updater.proofs.run.reply_judged.Statement.{statement}
 use Rattle.updater.proofs.run.reply_judged.Tie as tie

@@ -3,12 +3,12 @@ use mathlib.Core.Path.{_≡_, refl, sym, _∙_}
 use mathlib.Core.Logic.{⊎-elim}
 use Rattle.packets.specs.Header.{effectOf}
 use Rattle.writes.specs.Cursor.{afterWrite}
-use Rattle.packets.specs.declared.header.Effect.the-variants.{GoesOn, Desync, Iprog}
+use Rattle.writes.specs.Types.{GoesOn, Desync, EffectIprog}
 use borrow.Author.Needs.{needs}
 use Rattle.writes.proofs.cursor.after_write.Statement.{statement}
 use Rattle.writes.proofs.cursor.after_write.Tie as tie
 
-more-is : (c : tie.At-match-came) → c .match .more ≡ elim (effectOf (c .before .before .args .write .register) (c .before .before .args .write .word)) [ GoesOn ↦ c .before .before .args .remaining | Desync ↦ 0 | Iprog ↦ 0 ]
+more-is : (c : tie.At-match-came) → c .match .more ≡ elim (effectOf (c .before .before .args .write .register) (c .before .before .args .write .word)) [ GoesOn ↦ c .before .before .args .remaining | Desync ↦ 0 | EffectIprog ↦ 0 ]
 more-is c =
     ⊎-elim
     (λ v. rw (sym (c .before .effect-of .ensures) ∙ v .1 .given .1) (v .2))

@@ -1,61 +1,83 @@
--- `writes::Cursor::step` meets its contract.
-use Prim.Native.Nat.{suc, _-_}
-use mathlib.Core.Path.{_≡_, ap, _∙_}
+-- `Cursor::step` meets its contract.
+use Prim.Native.Nat.{suc, _+_, _-_, _≤_}
+use mathlib.Core.Path.{_≡_, sym, ap, ap₂, _∙_}
+use mathlib.Core.Logic.{⊎-elim}
 use native.Mathlib.Omega.{arith}
-use Rattle.scanner.specs.Walk.{beforeOf, comes, going, HeldBy, Inside}
-use Rattle.writes.specs.Cursor.{stepOf}
-use Rattle.writes.specs.declared.cursor.CursorStep.the-variants.{Wrote}
-use Rattle.writes.proofs.CursorLaws.{stepWalked, step-walk, step-none, told-rest}
 use borrow.Author.Needs.{needs}
+use lib.ListN.{length}
+use Rattle.scanner.specs.Scan.{beforeOf, scannedBy, scannedFrom, scanOf, InBoundsBy}
+use Rattle.scanner.proofs.Laws.{at-write, at-end}
+use Rattle.writes.specs.Cursor.{afterWrite, stepOf}
+use Rattle.writes.specs.Types.{Write, Wrote}
+use Rattle.writes.proofs.CursorLaws.{stepScanned, step-scan, step-none, step-remaining}
 use Rattle.writes.proofs.cursor.Cursor.step.Statement.{statement}
 use Rattle.writes.proofs.cursor.Cursor.step.Tie as tie
 
-stepped : (c : tie.After-follow) → stepWalked (c .follow .result) (c .before .before .before .before .args .self .remaining - 1) ≡ stepOf (c .before .before .before .before .args .s .now) (c .before .before .before .before .args .self)
-unfolding comes going beforeOf
+stepped : (c : tie.After-scan) →
+    stepScanned (scanOf (c .before .before .before .before .args .s .now) (c .scan .result)) (c .before .before .before .before .args .self .remaining - 1) ≡ stepOf (c .before .before .before .before .args .s .now) (c .before .before .before .before .args .self)
+unfolding scannedBy scannedFrom beforeOf
 stepped c =
-    let r : c .before .before .before .before .args .self .remaining ≡ suc (c .before .before .before .before .args .self .remaining - 1) = omega arith in
-    ap (λ w. stepWalked w (c .before .before .before .before .args .self .remaining - 1)) (c .follow .ensures .0)
-    ∙ step-walk (c .before .before .before .before .args .s .now) (c .before .before .before .before .args .self) (c .before .before .before .before .args .self .remaining - 1) r
+    let args = c .before .before .before .before .args in
+    let more : args .self .remaining ≡ suc (args .self .remaining - 1) = omega arith in
+    ap (λ w. stepScanned w (args .self .remaining - 1)) (c .scan .ensures .1 .1) ∙ step-scan (args .s .now) (args .self) (args .self .remaining - 1) more
 
 returns : tie.Need-returns
-returns c = let e = step-none (c .before .before .before .args .s .now) (c .before .before .before .args .self) (c .if1 .taken) in (e, rw e (told-rest (c .before .before .before .args .s .now) (c .before .before .before .args .self)))
+returns c =
+    let args = c .before .before .before .args in
+    let e = step-none (args .s .now) (args .self) (c .if1 .taken) in
+    (e, rw e (step-remaining (args .s .now) (args .self)))
 
-follow-requires : tie.Need-follow-requires
-unfolding HeldBy
-follow-requires c κs = omega arith
-
-enum-known-walked : tie.Need-enum-known-walked
-enum-known-walked c = search needs
+scan-requires : tie.Need-scan-requires
+unfolding InBoundsBy
+scan-requires c κs = omega arith
 
 enum-told : tie.Need-enum-told
 enum-told c = search needs
 
 returns-2 : tie.Need-returns-2
-unfolding stepWalked
-returns-2 c = let e = rw (c .enum-told .given .1) at (stepped (c .before .before)) in (e, rw e (told-rest (c .before .before .before .before .before .before .args .s .now) (c .before .before .before .before .before .before .args .self)))
+unfolding stepScanned
+returns-2 c =
+    let args = c .before .before .before .before .before .args in
+    let end = at-end (args .s .now) (c .before .scan .result) (c .before .scan .ensures .0) (λ e. ⊎-elim (λ z. omega arith) (⊎-elim (λ z. omega arith) (⊎-elim (λ z. omega arith) (⊎-elim (λ z. omega arith) (λ z. omega arith)))) (rw e at (c .match .keys2))) in
+    let e = rw (end .1) at (stepped (c .before)) in
+    (e, rw e (step-remaining (args .s .now) (args .self)))
+
+-- a write that was reached lies whole within the bytes
+whole : (c : tie.After-enum-told) → c .before .before .scan .result .at + 4 ≤ length (c .before .before .before .before .before .before .args .s .now)
+unfolding InBoundsBy
+whole c = rw (c .enum-told .given .1) at (c .before .before .scan .ensures .1 .0)
+
+write-at-requires : tie.Need-write-at-requires
+write-at-requires c κs = whole c
 
 sub-after-write : tie.Need-sub-after-write
 sub-after-write c = search needs
 
 after-write-requires : tie.Need-after-write-requires
-unfolding Inside
-after-write-requires c κs = let i = rw (c .before .before .walked .given .1) at (c .before .before .before .before .follow .ensures .1) in omega (arith, c .before .before .before .before .before .before .before .before .good)
+after-write-requires c κs =
+    let place = ap (λ (w : Write). w .place) (c .before .write-at .ensures) in
+    omega (arith, place, whole (c .before .before), c .before .before .before .before .before .before .before .before .good)
 
 returns-3 : tie.Need-returns-3
-unfolding stepWalked
+unfolding stepScanned
 returns-3 c =
-    let e = ap (Wrote (c .before .before .before .walked .given .0 .0)) (c .after-write .ensures) ∙ rw (c .before .before .before .walked .given .1) at (stepped (c .before .before .before .before .before)) in
-    (e, rw e (told-rest (c .before .before .before .before .before .before .before .before .before .args .s .now) (c .before .before .before .before .before .before .before .before .before .args .self)))
+    let args = c .before .before .before .before .before .before .before .before .before .args in
+    let w = c .before .before .before .before .before .scan .result in
+    let written = c .before .before .write-at .ensures in
+    let reached = at-write (args .s .now) w (c .before .before .before .enum-told .given .1) in
+    let e = ap₂ Wrote written (c .after-write .ensures ∙ ap (λ (write : Write). afterWrite write (w .left) (args .self .remaining - 1)) written)
+    ∙ rw reached at (stepped (c .before .before .before .before .before)) in
+    (e, rw e (step-remaining (args .s .now) (args .self)))
 
 pub step-spec : {M : Type 1} → statement M
 step-spec =
     tie.close
     (tie.spec
     returns
-    follow-requires
-    enum-known-walked
+    scan-requires
     enum-told
     returns-2
+    write-at-requires
     sub-after-write
     after-write-requires
     returns-3)
