@@ -1,8 +1,9 @@
 #!/usr/bin/env bash
 # The tests: proves every listed crate from nothing, tries every must-fail edit, runs every program and
 # compares what it writes; then what each edit showed, `bootreport` on each file of tests/report/, README's transcripts, the
-# C host's tests on the proved library, the example, killed in every order, and docs/PROOFS.md against the source. The last
-# line is 'N passed, 0 failed' only if all of that went well.
+# C host's tests on the proved library, the example, killed in every order, docs/PROOFS.md against the source, and the
+# refusals' names and numbers, which code, definitions, header and page share. The last line is 'N passed, 0 failed' only if
+# all of that went well.
 set -euo pipefail
 cd "$(dirname "$0")"
 
@@ -36,10 +37,11 @@ try tests/transcripts
 mkdir -p target/tests/host
 for source in tests/host/*.c; do
     name=$(basename "$source" .c)
-    cc -std=c11 -O2 -Wall -Wextra -Werror -o "target/tests/host/$name" "$source" target/staticlib/libhost.a
+    cc -std=c11 -O2 -Wall -Wextra -Werror -o "target/tests/host/$name" "$source" reference/*.c target/staticlib/libhost.a
     try "target/tests/host/$name"
 done
 try tests/example/run
 try python3 docs/proofs.py --check
+try python3 docs/refusals.py --check
 echo "$passed passed, $failed failed"
 [ "$failed" -eq 0 ]

@@ -44,6 +44,7 @@ void *buffer(size_t length);
 /* Random numbers, the same in each run. */
 uint64_t next_random(void);
 size_t below(size_t n);
+void fill_random(uint8_t *bytes, size_t length);
 
 /* The rows, by topic. `directory` is for files, and `self` runs this program again. */
 void mcs_rows(const char *directory, char *self);

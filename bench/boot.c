@@ -1,13 +1,13 @@
-/* The boot answer and the image check on 16 MiB, beside the word-by-word reader, and beside memmem where all
- * that is to be done is the search. */
+/* The boot answer and the image check on 16 MiB, beside the reference, which goes word by word, and beside memmem
+ * where all that is to be done is the search. */
 #define _GNU_SOURCE
 #include "bench.h"
-#include "plain.h"
 
 #include <stdlib.h>
 #include <string.h>
 
 #include "../include/tealsettle.h"
+#include "../reference/reference.h"
 
 enum { FDRI = 2, CMD = 4, NOP = 0x20000000 };
 
@@ -149,8 +149,7 @@ static size_t make_erased(uint8_t *chip)
 static size_t make_noise(uint8_t *chip)
 {
     uint8_t *sync;
-    for (size_t i = 0; i < MIB16; i++)
-        chip[i] = (uint8_t)next_random();
+    fill_random(chip, MIB16);
     while ((sync = memmem(chip, MIB16, "\xAA\x99\x55\x66", 4)) != NULL)
         *sync = 0;
     return 0;
@@ -160,12 +159,12 @@ static size_t make_noise(uint8_t *chip)
 
 typedef struct {
     const uint8_t *chip;
-    PlainBoot boot;
+    ReferenceBoot boot;
 } Call;
 
 static Answer answer(void *context)
 {
-    PlainBoot *b = &((Call *)context)->boot;
+    ReferenceBoot *b = &((Call *)context)->boot;
     return (Answer){{"number", "place", "stuck", "jumped", "sync", "end", "writes"},
                     {b->number, b->place, (size_t)b->stuck, (size_t)b->jumped, b->sync, b->end, b->writes}};
 }
@@ -174,14 +173,14 @@ static int ours_boot(void *context)
 {
     Call *c = context;
     TealsettleBoot r = tealsettle_boot(TEALSETTLE_SPI, c->chip, MIB16);
-    c->boot = (PlainBoot){r.number, r.place, (int)r.stuck, (int)r.jumped, r.sync, r.end, r.writes};
+    c->boot = (ReferenceBoot){r.number, r.place, (int)r.stuck, (int)r.jumped, r.sync, r.end, r.writes};
     return 1;
 }
 
-static int plain_boot_job(void *context)
+static int reference_boot_job(void *context)
 {
     Call *c = context;
-    c->boot = plain_boot(c->chip, MIB16);
+    c->boot = reference_boot(c->chip, MIB16);
     return 1;
 }
 
@@ -190,7 +189,7 @@ static int memmem_job(void *context)
 {
     Call *c = context;
     const uint8_t *sync = memmem(c->chip, MIB16, "\xAA\x99\x55\x66", 4);
-    c->boot = sync ? (PlainBoot){.sync = (size_t)(sync - c->chip)} : (PlainBoot){.place = MIB16, .stuck = 1};
+    c->boot = sync ? (ReferenceBoot){.sync = (size_t)(sync - c->chip)} : (ReferenceBoot){.place = MIB16, .stuck = 1};
     return 1;
 }
 
@@ -198,14 +197,14 @@ static int ours_image(void *context)
 {
     Call *c = context;
     TealsettleImage r = tealsettle_image_check(TEALSETTLE_SPI, c->chip, MIB16);
-    c->boot = (PlainBoot){r.number, r.place, 0, 0, r.sync, r.end, r.writes};
+    c->boot = (ReferenceBoot){r.number, r.place, 0, 0, r.sync, r.end, r.writes};
     return 1;
 }
 
-static int plain_image_job(void *context)
+static int reference_image_job(void *context)
 {
     Call *c = context;
-    c->boot = plain_image_check(c->chip, MIB16, MIB16);
+    c->boot = reference_image_check(c->chip, MIB16, MIB16);
     return 1;
 }
 
@@ -220,20 +219,20 @@ typedef struct {
 } Job;
 
 static const Job JOBS[] = {
-    {"boot: one long type 2 packet", make_long, ours_boot, plain_boot_job, "plain C", 100},
-    {"boot: packets of 1 word", make_ones, ours_boot, plain_boot_job, "plain C", AS_PLAIN},
-    {"boot: packets of 2 words", make_twos, ours_boot, plain_boot_job, "plain C", AS_PLAIN},
-    {"boot: packets of 3 words", make_threes, ours_boot, plain_boot_job, "plain C", AS_PLAIN},
-    {"boot: type 2 packets of 1 word", make_type2s, ours_boot, plain_boot_job, "plain C", AS_PLAIN},
-    {"boot: no-operations", make_nops, ours_boot, plain_boot_job, "plain C", AS_PLAIN},
-    {"boot: packets of 1 word of CMD", make_commands, ours_boot, plain_boot_job, "plain C", AS_PLAIN},
-    {"boot: packets of 0 to 8 words, NOPs", make_mixed, ours_boot, plain_boot_job, "plain C", AS_PLAIN},
-    {"boot: no sync, erased", make_erased, ours_boot, plain_boot_job, "plain C", AS_PLAIN},
+    {"boot: one long type 2 packet", make_long, ours_boot, reference_boot_job, "plain C", 100},
+    {"boot: packets of 1 word", make_ones, ours_boot, reference_boot_job, "plain C", AS_PLAIN},
+    {"boot: packets of 2 words", make_twos, ours_boot, reference_boot_job, "plain C", AS_PLAIN},
+    {"boot: packets of 3 words", make_threes, ours_boot, reference_boot_job, "plain C", AS_PLAIN},
+    {"boot: type 2 packets of 1 word", make_type2s, ours_boot, reference_boot_job, "plain C", AS_PLAIN},
+    {"boot: no-operations", make_nops, ours_boot, reference_boot_job, "plain C", AS_PLAIN},
+    {"boot: packets of 1 word of CMD", make_commands, ours_boot, reference_boot_job, "plain C", AS_PLAIN},
+    {"boot: packets of 0 to 8 words, NOPs", make_mixed, ours_boot, reference_boot_job, "plain C", AS_PLAIN},
+    {"boot: no sync, erased", make_erased, ours_boot, reference_boot_job, "plain C", AS_PLAIN},
     {"boot: no sync, erased", make_erased, ours_boot, memmem_job, "memmem", AS_PLAIN},
-    {"boot: no sync, random bytes", make_noise, ours_boot, plain_boot_job, "plain C", AS_PLAIN},
+    {"boot: no sync, random bytes", make_noise, ours_boot, reference_boot_job, "plain C", AS_PLAIN},
     {"boot: no sync, random bytes", make_noise, ours_boot, memmem_job, "memmem", AS_PLAIN},
-    {"image check: one long type 2 packet", make_long, ours_image, plain_image_job, "plain C", 100},
-    {"image check: packets of 1 word", make_ones, ours_image, plain_image_job, "plain C", AS_PLAIN},
+    {"image check: one long type 2 packet", make_long, ours_image, reference_image_job, "plain C", 100},
+    {"image check: packets of 1 word", make_ones, ours_image, reference_image_job, "plain C", AS_PLAIN},
 };
 
 void boot_rows(void)

@@ -1,7 +1,6 @@
 /* Reading MCS text: a 16 MiB image as text, file to file beside tools that do the same job, each a process of
  * its own; and the call alone, from memory to memory. */
 #include "bench.h"
-#include "plain.h"
 
 #include <fcntl.h>
 #include <spawn.h>
@@ -14,6 +13,7 @@
 #include <unistd.h>
 
 #include "../include/tealsettle.h"
+#include "../reference/reference.h"
 
 enum { PER_RECORD = 16, SEGMENT = 65536, PATH = 4096, RECORDS = MIB16 / PER_RECORD + MIB16 / SEGMENT + 1 };
 
@@ -40,9 +40,18 @@ static void store(const char *path, const uint8_t *bytes, size_t length)
         fail(path);
 }
 
-static uint8_t *put_record(uint8_t *at, unsigned address, unsigned type, const uint8_t *data, unsigned count)
+static uint8_t *put_pairs(uint8_t *at, const uint8_t *pairs, unsigned count)
 {
     static const char digits[] = "0123456789ABCDEF";
+    for (unsigned i = 0; i < count; i++) {
+        *at++ = (uint8_t)digits[pairs[i] / 16];
+        *at++ = (uint8_t)digits[pairs[i] % 16];
+    }
+    return at;
+}
+
+static uint8_t *put_record(uint8_t *at, unsigned address, unsigned type, const uint8_t *data, unsigned count)
+{
     uint8_t pairs[4 + 255 + 1] = {(uint8_t)count, (uint8_t)(address >> 8), (uint8_t)address, (uint8_t)type};
     unsigned sum = 0;
     memcpy(pairs + 4, data, count);
@@ -50,10 +59,7 @@ static uint8_t *put_record(uint8_t *at, unsigned address, unsigned type, const u
         sum += pairs[i];
     pairs[count + 4] = (uint8_t)(0 - sum);
     *at++ = ':';
-    for (unsigned i = 0; i < count + 5; i++) {
-        *at++ = (uint8_t)digits[pairs[i] / 16];
-        *at++ = (uint8_t)digits[pairs[i] % 16];
-    }
+    at = put_pairs(at, pairs, count + 5);
     *at++ = '\n';
     return at;
 }
@@ -157,21 +163,21 @@ typedef struct {
     const uint8_t *text, *image;
     size_t length;
     uint8_t *out;
-    PlainRead read;
+    ReferenceRead read;
 } Call;
 
 static int ours_call(void *context)
 {
     Call *c = context;
     TealsettleRead r = tealsettle_mcs_read(c->text, c->length, c->out, MIB16);
-    c->read = (PlainRead){r.number, r.place, r.length};
+    c->read = (ReferenceRead){r.number, r.place, r.length};
     return 1;
 }
 
-static int plain_call(void *context)
+static int reference_call(void *context)
 {
     Call *c = context;
-    c->read = plain_mcs_read(c->text, c->length, c->out, MIB16);
+    c->read = reference_mcs_read(c->text, c->length, c->out, MIB16);
     return 1;
 }
 
@@ -185,13 +191,12 @@ static Answer call_answer(void *context)
 void mcs_rows(const char *directory, char *self)
 {
     uint8_t *image = buffer(MIB16), *text = buffer(3 * MIB16);
-    for (size_t i = 0; i < MIB16; i++)
-        image[i] = (uint8_t)next_random();
+    fill_random(image, MIB16);
     size_t length = make_text(image, text);
     file_rows(directory, self, image, text, length);
     Call ours = {text, image, length, buffer(MIB16), {0}}, peer = {text, image, length, buffer(MIB16), {0}};
     Row row = {"MCS text to image, the call alone", length, RECORDS, "records", AS_PLAIN, {"tealsettle", ours_call, call_answer, &ours},
-               {"plain C", plain_call, call_answer, &peer}};
+               {"plain C", reference_call, call_answer, &peer}};
     table_row(&row);
     free(image), free(text), free(ours.out), free(peer.out);
 }

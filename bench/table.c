@@ -46,6 +46,12 @@ size_t below(size_t n)
     return (size_t)((next_random() >> 16) % n);
 }
 
+void fill_random(uint8_t *bytes, size_t length)
+{
+    for (size_t i = 0; i < length; i++)
+        bytes[i] = (uint8_t)next_random();
+}
+
 /* Processor time of this program and of those that it has run. */
 static double now(void)
 {
@@ -65,21 +71,29 @@ static double time_batch(const Side *side, long jobs)
     return now() - start;
 }
 
-static double smaller(double a, double b)
+static double min(double a, double b)
 {
     return a < b ? a : b;
+}
+
+/* How many jobs make a batch. The last that was tried counts as one. */
+static long find_batch(const Side *side, double *best)
+{
+    double seconds;
+    long jobs = 1;
+    while ((seconds = time_batch(side, jobs)) < BATCH_SECONDS)
+        jobs *= 2;
+    *best = min(*best, seconds / (double)jobs);
+    return jobs;
 }
 
 /* A side's turn: the best seconds for one job so far, or better ones. */
 static double take_turn(const Side *side, double best)
 {
-    double end = now() + TURN_SECONDS, seconds;
-    long jobs = 1;
-    while ((seconds = time_batch(side, jobs)) < BATCH_SECONDS)
-        jobs *= 2;
-    best = smaller(best, seconds / (double)jobs);
+    double end = now() + TURN_SECONDS;
+    long jobs = find_batch(side, &best);
     while (now() < end)
-        best = smaller(best, time_batch(side, jobs) / (double)jobs);
+        best = min(best, time_batch(side, jobs) / (double)jobs);
     return best;
 }
 

@@ -1,13 +1,13 @@
-/* A whole run on a 16 MiB chip, through the calls that a C host makes, beside a plain C updater that asks the
- * same questions. Both drive the same flash. */
+/* A whole run on a 16 MiB chip, through the calls that a C host makes, beside the reference, which asks the same
+ * questions. Both drive the same flash. */
 #include "bench.h"
-#include "plain.h"
 
 #include <stdio.h>
 #include <stdlib.h>
 #include <string.h>
 
 #include "../include/tealsettle.h"
+#include "../reference/reference.h"
 
 enum { UPDATE = 12288, AREA = MIB16 - UPDATE, PAGE = 256 };
 
@@ -66,8 +66,8 @@ static int ours_run(void *context)
         TealsettleOrder o = tealsettle_order(TEALSETTLE_SPI, TEALSETTLE_STATE(s), r->image, AREA);
         int look = o.operation == TEALSETTLE_LOOK;
         const uint8_t *read = carry_out(r->flash, o.operation, o.address, o.length, o.bytes);
-        TealsettleReply reply = tealsettle_reply(TEALSETTLE_SPI, TEALSETTLE_STATE(s), r->image, AREA, look ? TEALSETTLE_READ : TEALSETTLE_DONE, read,
-                                                 look ? o.length : 0);
+        TealsettleReply reply = tealsettle_reply(TEALSETTLE_SPI, TEALSETTLE_STATE(s), r->image, AREA,
+                                                 look ? TEALSETTLE_READ : TEALSETTLE_DONE, read, look ? o.length : 0);
         s = reply.state;
         r->number = reply.number, r->place = reply.place, r->orders++;
     }
@@ -75,22 +75,22 @@ static int ours_run(void *context)
     return 1;
 }
 
-static int plain_run(void *context)
+static int reference_run(void *context)
 {
     Run *r = context;
-    PlainState s;
+    ReferenceState s;
     int ended = 0;
-    r->number = plain_start(&s, MIB16, UPDATE, AREA, r->image, AREA, &r->place);
+    r->number = reference_start(&s, MIB16, UPDATE, AREA, r->image, AREA, &r->place);
     r->outcome = 0, r->orders = 0;
     while (r->number == 0) {
-        PlainOrder o;
-        plain_finished(&s, &ended, &r->outcome);
+        ReferenceOrder o;
+        reference_finished(&s, &ended, &r->outcome);
         if (ended)
             break;
-        plain_order(&s, r->image, AREA, &o);
-        int look = o.operation == PLAIN_LOOK;
+        reference_order(&s, r->image, AREA, &o);
+        int look = o.operation == TEALSETTLE_LOOK;
         const uint8_t *read = carry_out(r->flash, o.operation, o.address, o.length, o.bytes);
-        r->number = plain_reply(&s, r->image, AREA, look ? PLAIN_READ : PLAIN_DONE, read, look ? o.length : 0, &r->place);
+        r->number = reference_reply(&s, r->image, AREA, look ? TEALSETTLE_READ : TEALSETTLE_DONE, read, look ? o.length : 0, &r->place);
         r->orders++;
     }
     r->ended = (uint32_t)ended;
@@ -116,17 +116,17 @@ static Answer run_answer(void *context)
                     {r->number, r->place, r->ended, r->outcome, r->orders, chip_sum(r->flash->chip)}};
 }
 
-/* ---- Both updaters side by side, every field of every answer ---- */
+/* ---- Both side by side, every field of every answer ---- */
 
-static void same(const char *what, size_t order, size_t ours, size_t plain)
+static void same(const char *what, size_t order, size_t ours, size_t theirs)
 {
-    if (ours == plain)
+    if (ours == theirs)
         return;
-    printf("run, order %zu: %s is %zu, but plain C says %zu\n", order, what, ours, plain);
+    printf("run, order %zu: %s is %zu, but the reference has %zu\n", order, what, ours, theirs);
     exit(1);
 }
 
-static void same_state(size_t order, const TealsettleState *s, const PlainState *p)
+static void same_state(size_t order, const TealsettleState *s, const ReferenceState *p)
 {
     same("length", order, s->length, p->length);
     same("update", order, s->update, p->update);
@@ -137,28 +137,28 @@ static void same_state(size_t order, const TealsettleState *s, const PlainState 
     same("outcome", order, s->outcome, p->outcome);
 }
 
-static void same_order(size_t order, const TealsettleOrder *o, const PlainOrder *p)
+static void same_order(size_t order, const TealsettleOrder *o, const ReferenceOrder *p)
 {
     same("operation", order, o->operation, p->operation);
     same("address", order, o->address, p->address);
     same("length of the order", order, o->length, p->length);
-    if (p->operation == PLAIN_PROGRAM)
+    if (p->operation == TEALSETTLE_PROGRAM)
         same("difference of the bytes to program", order, memcmp(o->bytes, p->bytes, p->length) != 0, 0);
 }
 
 /* One order of both, up to both replies. */
-static void same_step(Flash *flash, const uint8_t *image, size_t k, TealsettleState *s, PlainState *p)
+static void same_step(Flash *flash, const uint8_t *image, size_t k, TealsettleState *s, ReferenceState *p)
 {
-    PlainOrder plain = {0};
+    ReferenceOrder theirs = {0};
     size_t place;
     TealsettleOrder o = tealsettle_order(TEALSETTLE_SPI, TEALSETTLE_STATE(*s), image, AREA);
-    same("number of the order", k, o.number, plain_order(p, image, AREA, &plain));
-    same_order(k, &o, &plain);
+    same("number of the order", k, o.number, reference_order(p, image, AREA, &theirs));
+    same_order(k, &o, &theirs);
     const uint8_t *read = carry_out(flash, o.operation, o.address, o.length, o.bytes);
-    uint32_t said = o.operation == TEALSETTLE_LOOK ? TEALSETTLE_READ : TEALSETTLE_DONE;
+    uint32_t reply_kind = o.operation == TEALSETTLE_LOOK ? TEALSETTLE_READ : TEALSETTLE_DONE;
     size_t length = o.operation == TEALSETTLE_LOOK ? o.length : 0;
-    TealsettleReply r = tealsettle_reply(TEALSETTLE_SPI, TEALSETTLE_STATE(*s), image, AREA, said, read, length);
-    same("number of the reply", k, r.number, plain_reply(p, image, AREA, said, read, length, &place));
+    TealsettleReply r = tealsettle_reply(TEALSETTLE_SPI, TEALSETTLE_STATE(*s), image, AREA, reply_kind, read, length);
+    same("number of the reply", k, r.number, reference_reply(p, image, AREA, reply_kind, read, length, &place));
     same("place", k, r.place, place);
     same_state(k, &r.state, p);
     *s = r.state;
@@ -166,14 +166,14 @@ static void same_step(Flash *flash, const uint8_t *image, size_t k, TealsettleSt
 
 static size_t same_run(Flash *flash, const uint8_t *image)
 {
-    PlainState plain = {0};
+    ReferenceState theirs = {0};
     size_t place, orders = 0;
     TealsettleStart start = tealsettle_start(TEALSETTLE_SPI, MIB16, UPDATE, AREA, image, AREA);
-    same("number of the start", 0, start.number, plain_start(&plain, MIB16, UPDATE, AREA, image, AREA, &place));
+    same("number of the start", 0, start.number, reference_start(&theirs, MIB16, UPDATE, AREA, image, AREA, &place));
     same("place", 0, start.place, place);
     TealsettleState s = start.state;
-    for (same_state(0, &s, &plain); s.phase < 7; orders++)
-        same_step(flash, image, orders, &s, &plain);
+    for (same_state(0, &s, &theirs); s.phase < 7; orders++)
+        same_step(flash, image, orders, &s, &theirs);
     same("orders in all", orders, tealsettle_total(TEALSETTLE_SPI, MIB16, UPDATE, AREA, AREA).orders, orders);
     return orders;
 }
@@ -196,7 +196,7 @@ void update_rows(void)
     size_t orders = same_run(&ours_flash, image);
     Run ours = {.flash = &ours_flash, .image = image}, peer = {.flash = &peer_flash, .image = image};
     Row row = {"update: a whole run", AREA, orders, "orders", AS_PLAIN, {"tealsettle", ours_run, run_answer, &ours},
-               {"plain C", plain_run, run_answer, &peer}};
+               {"plain C", reference_run, run_answer, &peer}};
     table_row(&row);
     ours_flash.idle = peer_flash.idle = 1;
     row.name = "update: the calls of a whole run";

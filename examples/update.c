@@ -24,11 +24,25 @@ enum { LENGTH = 32768, UPDATE = 16384, AREA = 16384 };
 #define LAYOUT LENGTH, UPDATE, AREA
 
 static const char *const MEANINGS[] = {
-    "", "the chip's length", "the update area's place", "the update area's length", "the image's length",
-    "the image does not read to its end", "the image jumps elsewhere", "the state does not fit", "the run has ended",
-    "the reply does not fit its order", "the switch segment is not erased", "the update area is not the image, then FF",
-    "the switch word is not ON", "the damage", "a line's characters, end or length", "a line's sum",
-    "a record's type, count or address", "a record's place", "the end record", "the buffer's length",
+    [TEALSETTLE_BAD_CHIP_LENGTH] = "the chip's length",
+    [TEALSETTLE_BAD_UPDATE_PLACE] = "the update area's place",
+    [TEALSETTLE_BAD_UPDATE_LENGTH] = "the update area's length",
+    [TEALSETTLE_BAD_IMAGE_LENGTH] = "the image's length",
+    [TEALSETTLE_IMAGE_FAULT] = "the image does not read to its end",
+    [TEALSETTLE_IMAGE_JUMPS] = "the image jumps elsewhere",
+    [TEALSETTLE_BAD_STATE] = "the state does not fit",
+    [TEALSETTLE_RUN_ENDED] = "the run has ended",
+    [TEALSETTLE_BAD_REPLY] = "the reply does not fit its order",
+    [TEALSETTLE_SWITCH_NOT_ERASED] = "the switch segment is not erased",
+    [TEALSETTLE_UPDATE_DIFFERS] = "the update area is not the image, then FF",
+    [TEALSETTLE_SWITCH_NOT_ON] = "the switch word is not ON",
+    [TEALSETTLE_BAD_DAMAGE] = "the damage",
+    [TEALSETTLE_BAD_LINE] = "a line's characters, end or length",
+    [TEALSETTLE_BAD_SUM] = "a line's sum",
+    [TEALSETTLE_BAD_RECORD] = "a record's type, count or address",
+    [TEALSETTLE_BAD_ADDRESS] = "a record's place",
+    [TEALSETTLE_BAD_END] = "the end record",
+    [TEALSETTLE_NO_ROOM] = "the buffer's length",
 };
 
 static int chip;                                    /* the file that stands for the flash */

@@ -18,28 +18,8 @@
  * A layout is three numbers: `length` (F), the chip's length; `update` (U), where its update area
  * begins; `area` (A), how long that is.
  *
- * The refusals, and the stops of a run, in the order in which they are asked. The place is 0 where none
- * is named.
- *    1  the kind is none, or the chip's length is no multiple of 4,096 from 16,384 to 16,777,216
- *    2  the update area does not begin at a multiple of 4,096 from 12,288 up to below the chip's end
- *    3  the update area has no multiple of 4,096 bytes, none at all, or ends after the chip
- *    4  the image has no byte, or more than its area has (by itself: more than 16,777,216)
- *    5  the image does not read by itself to its end; at the faulty word, or at its length where bytes ran out
- *    6  the image jumps elsewhere (IPROG); at the IPROG word
- *    7  the state does not fit: kind, layout, image length, phase, index or outcome, or the lent image's length
- *    8  the run has ended
- *    9  the reply is not of the kind and length asked for
- *   10  stop: a look of phase 1 did not read FF; at the first address that differs
- *   11  stop: a look of phase 4 did not read the image, then FF; at the first address that differs
- *   12  stop: the look of phase 6 did not read the switch word ON; at the first address that differs
- *   13  there are too few damage bytes, or in segment 0 one of their bits is neither the old nor the ordered one
- *   14  a line's characters, line end or number of pairs; at the line's first byte
- *   15  a line's sum; at the line's first byte
- *   16  a record's type, its count, or its address; at the line's first byte
- *   17  a data record that does not start where the last ended, or passes a multiple of 65,536; at the
- *       line's first byte
- *   18  no end record, or something after it; at the text's length, or at the byte after the end record's line
- *   19  the buffer is too short */
+ * The refusals, and the stops of a run, are the enum below; docs/REFUSALS.md says which place each names, and in
+ * which order they are asked. */
 #ifndef TEALSETTLE_H
 #define TEALSETTLE_H
 
@@ -65,6 +45,39 @@ extern "C" {
 /* The bytes of an erase, and the most of a program or a look. */
 #define TEALSETTLE_SEGMENT 4096u
 #define TEALSETTLE_PAGE 256u
+
+/* refusals: names and numbers of refusals and stops, written by docs/refusals.py */
+enum {
+    TEALSETTLE_BAD_CHIP_LENGTH = 1,    /* the chip's length is no multiple of 4,096 from 16,384 to 16,777,216 */
+    TEALSETTLE_BAD_UPDATE_PLACE = 2,   /* the update area does not begin at a multiple of 4,096 from 12,288 up to
+                                        * below the chip's end */
+    TEALSETTLE_BAD_UPDATE_LENGTH = 3,  /* the update area's length is 0 or no multiple of 4,096, or the area ends
+                                        * after the chip */
+    TEALSETTLE_BAD_IMAGE_LENGTH = 4,   /* the image has no byte, or more than its area (by itself, more than
+                                        * 16,777,216) */
+    TEALSETTLE_IMAGE_FAULT = 5,        /* the image does not read by itself to its end */
+    TEALSETTLE_IMAGE_JUMPS = 6,        /* the image jumps elsewhere (IPROG) */
+    TEALSETTLE_BAD_STATE = 7,          /* the run's state is none that a run with this image can have */
+    TEALSETTLE_RUN_ENDED = 8,          /* the run has ended */
+    TEALSETTLE_BAD_REPLY = 9,          /* the reply is not of the kind or length that the order asks for */
+    TEALSETTLE_SWITCH_NOT_ERASED = 10, /* a look found segment 0 not erased: the run stops */
+    TEALSETTLE_UPDATE_DIFFERS = 11,    /* a look found another byte in the update area than the image, then FF: the
+                                        * run stops */
+    TEALSETTLE_SWITCH_NOT_ON = 12,     /* the last look found the switch word not ON: the run stops */
+    TEALSETTLE_BAD_DAMAGE = 13,        /* there are too few damage bytes for the cut order, or in segment 0 one of
+                                        * their bits is neither the old nor the ordered one */
+    TEALSETTLE_BAD_LINE = 14,          /* a line is not a colon, capital hexadecimal pairs, and LF or CR LF, with as
+                                        * many pairs as its count says */
+    TEALSETTLE_BAD_SUM = 15,           /* a line's pairs do not add to 0 modulo 256 */
+    TEALSETTLE_BAD_RECORD = 16,        /* a record is not of type 00, 01 or 04, or has not its type's count or
+                                        * address */
+    TEALSETTLE_BAD_ADDRESS = 17,       /* a data record does not start where the last ended, or goes past a multiple
+                                        * of 65,536 */
+    TEALSETTLE_BAD_END = 18,           /* no end record came, or something follows it */
+    TEALSETTLE_NO_ROOM = 19,           /* what is to be written does not fit into the buffer; `bootreport`: the input
+                                        * has more than 65,536 bytes */
+};
+/* end of refusals */
 
 /* ---- Image files ---- */
 
@@ -141,7 +154,8 @@ TealsettleBuild tealsettle_build(uint32_t kind, size_t length, size_t update, si
  *     while (reply.number == 0 && !tealsettle_finished(TEALSETTLE_SPI, TEALSETTLE_STATE(reply.state)).ended) {
  *         TealsettleOrder order = tealsettle_order(TEALSETTLE_SPI, TEALSETTLE_STATE(reply.state), image, image_length);
  *         ... carry it out, once: erase, program, or read into `seen` ...
- *         reply = tealsettle_reply(TEALSETTLE_SPI, TEALSETTLE_STATE(reply.state), image, image_length, said, seen, seen_length);
+ *         reply = tealsettle_reply(TEALSETTLE_SPI, TEALSETTLE_STATE(reply.state), image, image_length,
+ *                                  reply_kind, seen, seen_length);
  *     }
  *
  * It ends with number 0: the image is written, read back and switched on; or with the number of a refusal or a
@@ -221,11 +235,11 @@ typedef struct {
     TealsettleState state; /* the next one; after a stop phase 7; after a refusal the one that was given */
 } TealsettleReply;
 
-/* The reply to the order of a state: `said` is TEALSETTLE_DONE, with a length of 0 (and a pointer that is not null),
- * after an erase or program, and TEALSETTLE_READ, with the bytes that the chip read, after a look. */
+/* The reply to the order of a state: `reply_kind` is TEALSETTLE_DONE, with a length of 0 (and a pointer that is not
+ * null), after an erase or program, and TEALSETTLE_READ, with the bytes that the chip read, after a look. */
 TealsettleReply tealsettle_reply(uint32_t kind, size_t length, size_t update, size_t area, size_t state_image_length,
                                  uint32_t phase, size_t index, uint32_t outcome, const uint8_t *image,
-                                 size_t image_length, uint32_t said, const uint8_t *bytes, size_t bytes_length);
+                                 size_t image_length, uint32_t reply_kind, const uint8_t *bytes, size_t bytes_length);
 
 /* Whether a run goes on. */
 typedef struct {

@@ -1,80 +1,79 @@
-/* tealsettle_boot, tealsettle_write, tealsettle_image_check and tealsettle_build beside the model in reader.h
- * and a builder of its own: random images and chips, good and damaged, short and long, built and not.
- * Answers, every write and every byte of the buffer are compared. Prints how many were tried. */
-#include "reader.h"
+/* tealsettle_boot, tealsettle_write, tealsettle_image_check and tealsettle_build beside the reference: random images
+ * and chips, good and damaged, short and long, built and not. Answers, every write and every byte of the buffer are
+ * compared. Prints how many were tried. */
+#include "compare.h"
+#include "make.h"
 
-#include "../../include/tealsettle.h"
+#include <stdlib.h>
 
-enum { IMAGES = 1000000, CHIPS = 60000, BUILDS = 60000, LARGE = 8, SMALL = 1 << 16, MARK = 0x5A };
+enum { IMAGES = 1000000, CHIPS = 60000, BUILDS = 60000, LARGE = 8, SMALL = 1 << 16, LISTED = 1 << 15, MARK = 0x5A };
 
-static const size_t longest = 16777216;
+static const size_t longest = REFERENCE_CHIP_MAX;
 
-static Reading reading;
-static long tried, answers[32];
-
-static int differs(const char *what, size_t ours, size_t theirs)
-{
-    if (ours == theirs)
-        return 0;
-    printf("input %ld: %s is %zu, but the model says %zu\n", tried, what, ours, theirs);
-    return 1;
-}
-
-static uint32_t some_kind(void)
-{
-    return one_in(50) ? 1 + (uint32_t)below(one_in(2) ? 3 : 0xFFFFFFFFu) : TEALSETTLE_SPI;
-}
+static ReferenceWrite list[LISTED]; /* of the chip that was read last */
+static long answers[NUMBERS], stuck, golden, updated;
 
 /* Images. */
 
 static int try_image(const uint8_t *image, size_t length)
 {
     uint32_t kind = some_kind();
-    size_t place = 0;
-    uint32_t number = kind == TEALSETTLE_SPI ? model_image(image, length, longest, &place, &reading) : 1;
+    ReferenceBoot m = {.number = TEALSETTLE_BAD_CHIP_LENGTH};
+    if (kind == TEALSETTLE_SPI)
+        m = reference_image_check(image, length, longest);
     TealsettleImage r = tealsettle_image_check(kind, image, length);
-    tried++, answers[number]++;
-    return differs("image: number", r.number, number) || differs("image: place", r.place, place) ||
-           differs("image: sync", r.sync, number ? 0 : reading.sync) || differs("image: end", r.end, number ? 0 : reading.end) ||
-           differs("image: writes", r.writes, number ? 0 : reading.writes);
+    tried++, answers[m.number]++;
+    return differs("image: number", r.number, m.number) || differs("image: place", r.place, m.place) ||
+           differs("image: sync", r.sync, m.sync) || differs("image: end", r.end, m.end) ||
+           differs("image: writes", r.writes, m.writes);
 }
 
 /* What chips load. */
 
-static int try_write(uint32_t kind, const uint8_t *chip, size_t length, size_t i, uint32_t number)
+static int try_write(uint32_t kind, const uint8_t *chip, size_t length, size_t i, const ReferenceBoot *boot)
 {
     TealsettleWrite r = tealsettle_write(kind, chip, length, i);
-    int found = number == 0 && reading.what == LOADED && i < reading.writes;
-    Write w = found ? reading.list[i] : (Write){0, 0, 0};
-    return differs("write: number", r.number, number) || differs("write: place", r.place, 0) ||
-           differs("write: found", r.found, (size_t)found) || differs("write: register", r.register_number, w.reg) ||
+    int found = i < boot->writes;
+    ReferenceWrite w = found ? list[i] : (ReferenceWrite){0, 0, 0};
+    return differs("write: number", r.number, boot->number) || differs("write: place", r.place, 0) ||
+           differs("write: found", r.found, (size_t)found) || differs("write: register", r.register_number, w.register_number) ||
            differs("write: word", r.word, w.word) || differs("write: place of the word", r.word_place, w.place);
 }
 
 /* All writes of a chip, or some where there are many; then one past the end, and far beyond. */
-static int try_writes(uint32_t kind, const uint8_t *chip, size_t length, uint32_t number)
+static int try_writes(uint32_t kind, const uint8_t *chip, size_t length, const ReferenceBoot *boot)
 {
-    size_t count = number == 0 && reading.what == LOADED ? reading.writes : 0;
-    size_t each = count < 40 ? count : 6;
+    size_t count = boot->writes, each = count < 40 ? count : 6;
     for (size_t i = 0; i < each; i++)
-        if (try_write(kind, chip, length, count < 40 ? i : below(count < KEPT ? count : KEPT), number))
+        if (try_write(kind, chip, length, count < 40 ? i : below(min(count, LISTED)), boot))
             return 1;
-    return try_write(kind, chip, length, count, number) || (one_in(8) && try_write(kind, chip, length, SIZE_MAX - below(9), number));
+    return try_write(kind, chip, length, count, boot) || (one_in(8) && try_write(kind, chip, length, SIZE_MAX - below(9), boot));
+}
+
+static void count_boot(const ReferenceBoot *boot)
+{
+    if (boot->number != 0)
+        answers[boot->number]++;
+    else if (boot->stuck)
+        stuck++;
+    else if (boot->jumped)
+        updated++;
+    else
+        golden++;
 }
 
 static int try_boot(const uint8_t *chip, size_t length)
 {
     uint32_t kind = some_kind();
-    uint32_t number = kind == TEALSETTLE_SPI && length_allowed(length) ? 0 : 1;
-    if (number == 0)
-        read_words(chip, length, 1, &reading);
-    int loaded = number == 0 && reading.what == LOADED, stuck = number == 0 && !loaded;
+    ReferenceBoot m = {.number = TEALSETTLE_BAD_CHIP_LENGTH};
+    if (kind == TEALSETTLE_SPI)
+        m = reference_boot_list(chip, length, list, LISTED);
     TealsettleBoot r = tealsettle_boot(kind, chip, length);
-    tried++, answers[number ? 1 : stuck ? 20 : 21 + reading.jumped]++;
-    return differs("boot: number", r.number, number) || differs("boot: place", r.place, stuck ? reading.place : 0) ||
-           differs("boot: stuck", r.stuck, (size_t)stuck) || differs("boot: jumped", r.jumped, loaded ? (size_t)reading.jumped : 0) ||
-           differs("boot: sync", r.sync, loaded ? reading.sync : 0) || differs("boot: end", r.end, loaded ? reading.end : 0) ||
-           differs("boot: writes", r.writes, loaded ? reading.writes : 0) || try_writes(kind, chip, length, number);
+    tried++, count_boot(&m);
+    return differs("boot: number", r.number, m.number) || differs("boot: place", r.place, m.place) ||
+           differs("boot: stuck", r.stuck, (size_t)m.stuck) || differs("boot: jumped", r.jumped, (size_t)m.jumped) ||
+           differs("boot: sync", r.sync, m.sync) || differs("boot: end", r.end, m.end) ||
+           differs("boot: writes", r.writes, m.writes) || try_writes(kind, chip, length, &m);
 }
 
 /* Chips. */
@@ -84,7 +83,7 @@ static uint8_t chip[SMALL];
 static void put_stream(size_t at, size_t length)
 {
     if (at < length)
-        memcpy(chip + at, stream, stream_length < length - at ? stream_length : length - at);
+        memcpy(chip + at, stream, min(stream_length, length - at));
 }
 
 /* A stream that leaves with IPROG for a place, or close to it. */
@@ -129,21 +128,16 @@ static size_t some_number(size_t least, size_t most)
     return !one_in(20) ? n : one_in(2) ? n + 1 + below(4095) : n - 4096 * below(8);
 }
 
-static void model_build(uint8_t *out, size_t length, size_t update, const uint8_t *golden, size_t golden_length)
+static void switch_nearly_on(void)
 {
-    uint8_t words[20] = {0x30, 2, 0, 1, 0, 0, 0, 0, 0x30, 0, 0x80, 1, 0, 0, 0, 0x0F, 0x20, 0, 0, 0};
     for (int i = 0; i < 4; i++)
-        words[4 + i] = (uint8_t)(update >> (24 - 8 * i));
-    for (size_t i = 0; i < length; i++)
-        out[i] = i >= 4096 && i < 4116 ? words[i - 4096] : i >= 8192 && i < 8192 + golden_length ? golden[i - 8192] : 0xFF;
+        chip[4092 + i] = (uint8_t)(ON[i] | (one_in(12) ? 1u << below(8) : 0));
 }
 
 /* A chip that was built and then changed: ON or nearly, with an image at U, now and then damaged. */
 static int try_changed(size_t length, size_t update)
 {
-    static const uint8_t on[4] = {0xAA, 0x99, 0x55, 0x66};
-    for (int i = 0; i < 4; i++)
-        chip[4092 + i] = (uint8_t)(on[i] | (one_in(12) ? 1u << below(8) : 0));
+    switch_nearly_on();
     make_stream(below(8), one_in(4));
     put_stream(update, length);
     for (size_t i = one_in(3) ? 1 + below(3) : 0; i > 0; i--)
@@ -151,35 +145,33 @@ static int try_changed(size_t length, size_t update)
     return try_boot(chip, length);
 }
 
-static int try_build(void)
+/* A golden image in `stream`, now and then one that fills its area, or has one byte more. */
+static void make_golden(size_t update)
 {
-    static uint8_t theirs[SMALL];
-    uint32_t kind = some_kind();
-    size_t length = some_number(16384, SMALL - 4096), update = some_number(12288, length - 4096);
-    size_t area = one_in(30) ? SIZE_MAX - 4095 : some_number(4096, length > update ? length - update : 4096);
-    size_t room = one_in(10) ? below(SMALL) : SMALL, place = 0;
     make_stream(one_in(50) ? 1500 : below(10), one_in(5));
     if (one_in(5))
         damage_stream();
     if (one_in(10) && update > 8192 + stream_length && update < SMALL)
-        stream_length = update - 8192 + below(2); /* fills its area, or has one byte more */
-    uint32_t number = kind == TEALSETTLE_SPI ? model_layout(length, update, area) : 1;
-    if (number == 0)
-        number = model_image(stream, stream_length, update - 8192, &place, &reading);
-    if (number == 0 && room < length)
-        number = 19;
+        stream_length = update - 8192 + below(2);
+}
+
+static int try_build(void)
+{
+    static uint8_t theirs[SMALL];
+    uint32_t kind = some_kind(), number = TEALSETTLE_BAD_CHIP_LENGTH;
+    size_t length = some_number(16384, SMALL - 4096), update = some_number(12288, length - 4096);
+    size_t area = one_in(30) ? SIZE_MAX - 4095 : some_number(4096, length > update ? length - update : 4096);
+    size_t room = one_in(10) ? below(SMALL) : SMALL, place = 0;
+    make_golden(update);
     memset(chip, MARK, sizeof chip);
     memset(theirs, MARK, sizeof theirs);
-    if (number == 0)
-        model_build(theirs, length, update, stream, stream_length);
+    if (kind == TEALSETTLE_SPI)
+        number = reference_build(length, update, area, stream, stream_length, theirs, room, &place);
     TealsettleBuild r = tealsettle_build(kind, length, update, area, stream, stream_length, chip, room);
     tried++, answers[number]++;
-    if (differs("build: number", r.number, number) || differs("build: place", r.place, place))
+    if (differs("build: number", r.number, number) || differs("build: place", r.place, place) ||
+        bytes_differ("build: the buffer's bytes", chip, theirs, sizeof chip))
         return 1;
-    if (memcmp(chip, theirs, sizeof chip) != 0) {
-        printf("input %ld: the buffer differs\n", tried);
-        return 1;
-    }
     return number == 0 && (try_boot(chip, length) || try_changed(length, update));
 }
 
@@ -203,30 +195,26 @@ static int try_large(void)
     return failed;
 }
 
+static int try_some_image(void)
+{
+    make_stream(below(10), one_in(2));
+    for (size_t k = one_in(2) ? 1 + below(3) : 0; k > 0; k--)
+        damage_stream();
+    return try_image(stream, stream_length);
+}
+
+static int try_some_chip(void)
+{
+    size_t length = make_chip();
+    return try_boot(chip, length);
+}
+
 int main(void)
 {
-    for (long i = 0; i < IMAGES; i++) {
-        make_stream(below(10), one_in(2));
-        for (size_t k = one_in(2) ? 1 + below(3) : 0; k > 0; k--)
-            damage_stream();
-        if (try_image(stream, stream_length))
-            return 1;
-    }
-    for (long i = 0; i < CHIPS; i++) {
-        size_t length = make_chip();
-        if (try_boot(chip, length))
-            return 1;
-    }
-    for (long i = 0; i < BUILDS; i++)
-        if (try_build())
-            return 1;
-    for (long i = 0; i < LARGE; i++)
-        if (try_large())
-            return 1;
+    if (try_often(IMAGES, try_some_image) || try_often(CHIPS, try_some_chip) || try_often(BUILDS, try_build) || try_often(LARGE, try_large))
+        return 1;
     printf("host test: %ld images, chips and builds tried, none differs (good %ld", tried, answers[0]);
-    for (int n = 1; n <= 19; n++)
-        if (answers[n])
-            printf(", %d %ld", n, answers[n]);
-    printf("; chips stuck %ld, golden %ld, update %ld)\n", answers[20], answers[21], answers[22]);
+    print_refusals(answers);
+    printf("; chips stuck %ld, golden %ld, update %ld)\n", stuck, golden, updated);
     return 0;
 }

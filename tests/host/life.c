@@ -1,21 +1,25 @@
 /* Whole lives of chips: starts, orders, replies and power cuts, accepted and refused, on a chip that
- * obeys, lies, or is cut inside an order. Each answer is compared with the model in run.h, and after each
- * event what the chip loads with what must load. Prints how many events were tried. */
-#include "run.h"
+ * obeys, lies, or is cut inside an order. Each answer is compared with the reference's, and after each event what the
+ * chip loads with what has to load. That is told without the reference: by the events, and by what was put into
+ * each image when it was made. Prints how many events were tried. */
+#include "compare.h"
+#include "make.h"
 
 enum { LIVES = 2500, EVENTS = 600, LONGEST = 32768, IMAGES = 5, LISTED = 24 };
+
+enum { ENDED = 7 }; /* the phase after the last order */
 
 typedef struct {
     uint8_t bytes[LONGEST];
     size_t length;
-    Reading alone;
+    Made loads;
 } Image;
 
 /* What an order leaves in its span. */
 enum { OBEYED, KEPT_OLD, MIXED, NEARLY, RUBBISH, WAYS };
 
 /* Where a run is cut: before an order, inside it (or after it, before its reply), or after its reply. */
-enum { BEFORE, INSIDE, AFTER, CUTS };
+enum { BEFORE, INSIDE, AFTER };
 
 /* What befalls a run of a random life at one of its orders. */
 enum { NOTHING, LIE, CUT_BEFORE, CUT_INSIDE, NEW_START, TROUBLES };
@@ -26,12 +30,13 @@ static uint8_t chip[LONGEST];
 static size_t length, update;
 static const Image *ordered;  /* the image of the last run that ordered the switch on, at first none */
 static int is_open, carried;  /* an open run; whether the order of its state has been carried out */
-static State state;           /* handed back last */
+static TealsettleState state; /* handed back last */
+static TealsettleOrder order; /* carried out last */
 static const Image *running;  /* the run's image */
 static int looks, switched;   /* of the last run: looks of phase 1 that read FF; whether it ordered the switch on */
 static size_t orders;         /* of the last run: how many were carried out */
 static int changed;           /* whether what loads may have changed since it was last compared */
-static long lives, starts, refused, stops[13], cut, updated, on_events;
+static long lives, starts, refused, answers[NUMBERS], cut, updated, on_events;
 
 static int fails(const char *what)
 {
@@ -39,25 +44,31 @@ static int fails(const char *what)
     return 1;
 }
 
-/* What must load. */
+/* What has to load. */
 
 static int write_differs(const Image *image, size_t at, size_t i)
 {
     TealsettleWrite w = tealsettle_write(TEALSETTLE_SPI, chip, length, i);
-    const Write *m = &image->alone.list[i];
-    if (i == image->alone.writes)
+    const MadeWrite *m = &image->loads.list[i];
+    if (i == image->loads.writes)
         return differs("write: found", w.found, 0);
-    return differs("write: found", w.found, 1) || differs("write: register", w.register_number, m->reg) ||
+    return differs("write: found", w.found, 1) || differs("write: register", w.register_number, m->register_number) ||
            differs("write: word", w.word, m->word) || differs("write: place", w.word_place, at + m->place);
 }
 
-/* Does the chip load this image, whole, from this place? All writes are compared; of many, some. */
+/* How many writes are compared: of many, some, and where nothing has changed now and then one. */
+static size_t listed_writes(size_t writes)
+{
+    return changed ? min(writes, LISTED) : (size_t)one_in(4);
+}
+
+/* Does the chip load anything but this image, whole, from this place? */
 static int loads_other(const Image *image, size_t at, int jumped)
 {
     TealsettleBoot b = tealsettle_boot(TEALSETTLE_SPI, chip, length);
-    size_t writes = image->alone.writes, listed = !changed ? (size_t)one_in(4) : writes < LISTED ? writes : LISTED;
+    size_t writes = image->loads.writes, listed = listed_writes(writes);
     if (differs("boot: number", b.number, 0) || differs("boot: stuck", b.stuck, 0) || differs("boot: jumped", b.jumped, (size_t)jumped) ||
-        differs("boot: sync", b.sync, at + image->alone.sync) || differs("boot: end", b.end, at + image->alone.end) ||
+        differs("boot: sync", b.sync, at + image->loads.sync) || differs("boot: end", b.end, at + image->loads.end) ||
         differs("boot: writes", b.writes, writes))
         return 1;
     for (size_t i = 0; i < listed; i++)
@@ -85,10 +96,9 @@ static int claim_fails(void)
 
 static int start(const Image *image, size_t area)
 {
-    static Reading ignored;
-    State given = {length, update, area, image->length, 0, 0, 0};
-    TealsettleStart r;
-    if (start_differs(TEALSETTLE_SPI, given, image->bytes, &r, &ignored))
+    ReferenceState given = {length, update, area, image->length, 0, 0, 0};
+    TealsettleStart r = tealsettle_start(TEALSETTLE_SPI, length, update, area, image->bytes, image->length);
+    if (start_differs(TEALSETTLE_SPI, given, image->bytes, r))
         return 1;
     if (r.number == 0)
         starts++, is_open = 1, carried = 0, state = r.state, running = image, looks = 0, switched = 0, orders = 0;
@@ -100,11 +110,9 @@ static int start(const Image *image, size_t area)
 /* A start with something wrong: a kind, a layout, an image. It changes nothing. */
 static int start_wrong(void)
 {
-    static Reading ignored;
-    State given = {length, update, 4096, images[1].length, 0, 0, 0};
+    ReferenceState given = {length, update, 4096, images[1].length, 0, 0, 0};
     const uint8_t *image = images[1].bytes;
     uint32_t kind = one_in(4) ? 1 + (uint32_t)below(3) : TEALSETTLE_SPI;
-    TealsettleStart r;
     switch (below(4)) {
     case 0:
         given.length = one_in(2) ? 12288 : length + 1;
@@ -121,27 +129,28 @@ static int start_wrong(void)
         image = stream, given.image_length = stream_length;
         break;
     }
-    if (start_differs(kind, given, image, &r, &ignored))
+    TealsettleStart r = tealsettle_start(kind, given.length, given.update, given.area, image, given.image_length);
+    if (start_differs(kind, given, image, r))
         return 1;
     if (r.number != 0)
         refused++;
     return claim_fails();
 }
 
-/* What stands in a byte of the span afterwards: in segment 0 each bit old or as ordered. */
-static uint8_t left_byte(const Order *o, uint8_t old, size_t i, int way)
+/* What stands in a byte of the order's span afterwards: in segment 0 each bit old or as ordered. */
+static uint8_t left_byte(uint8_t old, size_t i, int way)
 {
-    uint8_t as_ordered = obeyed_byte(o, old, i), some = (uint8_t)next_random();
+    uint8_t as_ordered = order.operation == TEALSETTLE_ERASE ? 0xFF : old & order.bytes[i], some = (uint8_t)next_random();
     switch (way) {
     case OBEYED:
         return as_ordered;
     case KEPT_OLD:
         return old;
     case NEARLY:
-        some = one_in(o->length) ? (uint8_t)(1u << below(8)) : 0;
+        some = one_in((unsigned)order.length) ? (uint8_t)(1u << below(8)) : 0;
         break;
     case RUBBISH:
-        if (o->address >= 4096)
+        if (order.address >= 4096)
             return some;
         break;
     default:
@@ -150,20 +159,26 @@ static uint8_t left_byte(const Order *o, uint8_t old, size_t i, int way)
     return (uint8_t)((old & some) | (as_ordered & ~some));
 }
 
+static int is_erased(size_t address, size_t count)
+{
+    size_t i = 0;
+    while (i < count && chip[address + i] == 0xFF)
+        i++;
+    return i == count;
+}
+
 static int carry_out(int way)
 {
-    TealsettleOrder r = tealsettle_order(TEALSETTLE_SPI, TEALSETTLE_STATE(state), running->bytes, running->length);
-    if (order_differs(TEALSETTLE_SPI, state, running->bytes, running->length, r))
+    order = tealsettle_order(TEALSETTLE_SPI, TEALSETTLE_STATE(state), running->bytes, running->length);
+    if (order_differs(TEALSETTLE_SPI, (ReferenceState){TEALSETTLE_STATE(state)}, running->bytes, running->length, &order))
         return 1;
-    Order o = {r.operation, r.address, r.length, {0}};
-    memcpy(o.bytes, r.bytes, sizeof o.bytes);
-    for (size_t i = 0; i < o.length && o.operation != TEALSETTLE_LOOK; i++)
-        chip[o.address + i] = left_byte(&o, chip[o.address + i], i, way);
+    for (size_t i = 0; i < order.length && order.operation != TEALSETTLE_LOOK; i++)
+        chip[order.address + i] = left_byte(chip[order.address + i], i, way);
     if (state.phase == 1)
-        looks += memcmp(chip + o.address, o.bytes, o.length) == 0;
+        looks += is_erased(order.address, order.length);
     if (state.phase == 5)
         switched = 1, ordered = running;
-    changed = o.operation != TEALSETTLE_LOOK;
+    changed = order.operation != TEALSETTLE_LOOK;
     carried = 1, orders++;
     return claim_fails();
 }
@@ -171,31 +186,38 @@ static int carry_out(int way)
 /* The true reply to the order of the state, once it has been carried out. */
 static int reply_true(void)
 {
-    Order o = order_of(state, running->bytes);
-    int look = o.operation == TEALSETTLE_LOOK;
-    uint32_t said = look ? TEALSETTLE_READ : TEALSETTLE_DONE;
-    const uint8_t *bytes = chip + o.address;
-    size_t lent = look ? o.length : 0;
-    TealsettleReply m = model_reply(TEALSETTLE_SPI, state, running->bytes, running->length, said, bytes, lent);
-    TealsettleReply r = tealsettle_reply(TEALSETTLE_SPI, TEALSETTLE_STATE(state), running->bytes, running->length, said, bytes, lent);
-    if (reply_differs(r, m) || finished_differs(TEALSETTLE_SPI, r.state, tealsettle_finished(TEALSETTLE_SPI, TEALSETTLE_STATE(r.state))))
+    int look = order.operation == TEALSETTLE_LOOK;
+    uint32_t reply_kind = look ? TEALSETTLE_READ : TEALSETTLE_DONE;
+    const uint8_t *image = running->bytes, *bytes = chip + order.address;
+    size_t lent = look ? order.length : 0;
+    ReferenceState given = {TEALSETTLE_STATE(state)};
+    ExpectedReply e = expected_reply(TEALSETTLE_SPI, given, image, running->length, reply_kind, bytes, lent);
+    TealsettleReply r = tealsettle_reply(TEALSETTLE_SPI, TEALSETTLE_STATE(state), image, running->length, reply_kind, bytes, lent);
+    if (reply_differs(r, e) || finished_differs(TEALSETTLE_SPI, e.state, tealsettle_finished(TEALSETTLE_SPI, TEALSETTLE_STATE(r.state))))
         return 1;
     state = r.state, carried = 0;
-    stops[r.number]++;
+    answers[r.number]++;
     return claim_fails();
+}
+
+static int is_refusal_of_reply(uint32_t number)
+{
+    return number == TEALSETTLE_BAD_STATE || number == TEALSETTLE_RUN_ENDED || number == TEALSETTLE_BAD_REPLY;
 }
 
 /* A reply that is refused: any image, any bytes, and maybe before its order. It changes nothing. */
 static int reply_wrong(void)
 {
     const Image *image = one_in(2) ? running : &images[below(IMAGES)];
-    uint32_t kind = one_in(8) ? 1 + (uint32_t)below(3) : TEALSETTLE_SPI, said = (uint32_t)below(3);
+    uint32_t kind = one_in(8) ? 1 + (uint32_t)below(3) : TEALSETTLE_SPI, reply_kind = (uint32_t)below(3);
     size_t at = below(length - 300), lent = one_in(2) ? 256 : below(300);
-    TealsettleReply m = model_reply(kind, state, image->bytes, image->length, said, chip + at, lent);
-    if (m.number < 7 || m.number > 9)
+    ReferenceState given = {TEALSETTLE_STATE(state)};
+    ExpectedReply e = expected_reply(kind, given, image->bytes, image->length, reply_kind, chip + at, lent);
+    if (!is_refusal_of_reply(e.number))
         return 0; /* not refused, and not true: no event of a life */
+    TealsettleReply r = tealsettle_reply(kind, TEALSETTLE_STATE(state), image->bytes, image->length, reply_kind, chip + at, lent);
     refused++;
-    return reply_differs(tealsettle_reply(kind, TEALSETTLE_STATE(state), image->bytes, image->length, said, chip + at, lent), m) || claim_fails();
+    return reply_differs(r, e) || claim_fails();
 }
 
 static int cut_power(void)
@@ -208,7 +230,7 @@ static int cut_power(void)
 /* So many orders, obeyed, with true replies; fewer if the run ends. */
 static int obey_orders(size_t count)
 {
-    for (size_t i = 0; i < count && state.phase < 7; i++)
+    for (size_t i = 0; i < count && state.phase < ENDED; i++)
         if ((!carried && carry_out(OBEYED)) || reply_true())
             return 1;
     return 0;
@@ -226,21 +248,34 @@ static int update_with(const Image *image, size_t area)
         return fails("the last order is not that of phase 6");
     if (obey_orders(1))
         return 1;
-    if (state.phase != 7 || state.outcome != 0)
+    if (state.phase != ENDED || state.outcome != 0)
         return fails("an uncut run on a chip that obeys has not ended with outcome 0");
     changed = 1, updated++;
     return loads_other(image, update, 1);
+}
+
+static void make_image(Image *image, size_t most)
+{
+    image->length = some_image(image->bytes, most);
+    image->loads.sync = made.sync, image->loads.end = made.end, image->loads.writes = made.writes;
+    memcpy(image->loads.list, made.list, made.writes * sizeof *made.list);
+}
+
+/* The golden image, and those for updates, one of which is now and then the golden one. */
+static void make_images(void)
+{
+    make_image(&images[0], update - 8192);
+    for (int i = 1; i < IMAGES; i++)
+        make_image(&images[i], length - update);
+    if (one_in(4) && images[0].length <= length - update)
+        images[1] = images[0];
 }
 
 /* A chip as it is built, with no run open. */
 static int build(size_t chip_length, size_t at)
 {
     length = chip_length, update = at;
-    images[0].length = some_image(images[0].bytes, update - 8192, &images[0].alone);
-    for (int i = 1; i < IMAGES; i++)
-        images[i].length = some_image(images[i].bytes, length - update, &images[i].alone);
-    if (one_in(4) && images[0].length <= length - update)
-        images[1] = images[0];
+    make_images();
     memset(chip, 0, sizeof chip);
     ordered = NULL, is_open = carried = looks = switched = 0, changed = 1;
     lives++;
@@ -254,19 +289,24 @@ static int try_cut(size_t k, int where, int way, int on)
 {
     if (build(16384, 12288) || (on && update_with(&images[1], 4096)) || start(&images[2], 4096) || obey_orders(k))
         return 1;
-    if (state.phase < 7 && where != BEFORE && (carry_out(way) || (where == AFTER && reply_true())))
+    if (state.phase < ENDED && where != BEFORE && (carry_out(way) || (where == AFTER && reply_true())))
         return 1;
     return cut_power() || update_with(&images[3], 4096);
+}
+
+static int try_cuts_in(size_t k, int where)
+{
+    for (int way = 0; way < (where == BEFORE ? 1 : WAYS); way++)
+        if (try_cut(k, where, way, 0) || try_cut(k, where, way, 1))
+            return 1;
+    return 0;
 }
 
 static int try_cuts(void)
 {
     for (size_t k = 0; k <= 52; k++)
-        for (int where = 0; where < CUTS; where++)
-            for (int way = 0; way < (where == BEFORE ? 1 : WAYS); way++)
-                for (int on = 0; on < 2; on++)
-                    if (try_cut(k, where, way, on))
-                        return 1;
+        if (try_cuts_in(k, BEFORE) || try_cuts_in(k, INSIDE) || try_cuts_in(k, AFTER))
+            return 1;
     return 0;
 }
 
@@ -280,7 +320,7 @@ static int start_some(void)
 {
     if (start(&images[below(IMAGES)], some_multiple(4096, length - update)))
         return 1;
-    size_t all = orders_in_all(state);
+    size_t all = reference_orders_in_all(&(ReferenceState){TEALSETTLE_STATE(state)});
     trouble = (int)below(TROUBLES);
     trouble_at = one_in(2) ? below(all) : one_in(2) ? 0 : all - 1 - below(2);
     return 0;
@@ -300,7 +340,7 @@ static int some_event(void)
 {
     if (one_in(20))
         return is_open && one_in(2) ? reply_wrong() : start_wrong();
-    if (!is_open || state.phase == 7)
+    if (!is_open || state.phase == ENDED)
         return one_in(10) ? cut_power() : start_some();
     if (carried)
         return reply_true();
@@ -325,15 +365,20 @@ static int try_life(void)
     return update_with(&images[1 + below(IMAGES - 1)], length - update);
 }
 
+static void print_stop(int number)
+{
+    printf(", %s%d %ld", number == TEALSETTLE_SWITCH_NOT_ERASED ? "stops " : "", number, answers[number]);
+}
+
 int main(void)
 {
-    if (try_cuts())
+    if (try_cuts() || try_often(LIVES, try_life))
         return 1;
-    for (long i = 0; i < LIVES; i++)
-        if (try_life())
-            return 1;
-    printf("host test: %ld events in %ld lives tried, what loads is right after each (an update after %ld; starts %ld, refused calls %ld, "
-           "stops 10 %ld, 11 %ld, 12 %ld, cuts %ld, uncut runs %ld)\n",
-           tried, lives, on_events, starts, refused, stops[10], stops[11], stops[12], cut, updated);
+    printf("host test: %ld events in %ld lives tried, what loads is right after each (an update after %ld; starts %ld, refused calls %ld",
+           tried, lives, on_events, starts, refused);
+    print_stop(TEALSETTLE_SWITCH_NOT_ERASED);
+    print_stop(TEALSETTLE_UPDATE_DIFFERS);
+    print_stop(TEALSETTLE_SWITCH_NOT_ON);
+    printf(", cuts %ld, uncut runs %ld)\n", cut, updated);
     return 0;
 }

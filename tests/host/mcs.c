@@ -1,12 +1,7 @@
-/* tealsettle_mcs_read beside a reader of its own, written from the specification and sharing nothing with
- * the library: random texts, good and damaged, short and long, with room and without; and whole files of more
- * than 65,536 bytes as other tools write them, with the answers that the specification gives. Answers and
- * every byte of the buffer are compared. Prints how many were tried. */
-#include <stdio.h>
-#include <stdlib.h>
-#include <string.h>
-
-#include "../../include/tealsettle.h"
+/* tealsettle_mcs_read beside the reference: random texts, good and damaged, short and long, with room and without; and
+ * whole files of more than 65,536 bytes as other tools write them, with the answers that the specification gives.
+ * Answers and every byte of the buffer are compared. Prints how many were tried. */
+#include "compare.h"
 
 enum { TEXTS = 400000, ROOM = 2000, MARK = 0x5A };
 
@@ -23,96 +18,16 @@ static int one_in(unsigned n)
     return below(n) == 0;
 }
 
-/* The model: one line after the other, each taken whole. */
-
-typedef struct {
-    uint8_t pairs[4096];
-    size_t count;
-} Line;
-
-static int digit(uint8_t c)
-{
-    if (c >= '0' && c <= '9')
-        return c - '0';
-    return c >= 'A' && c <= 'F' ? c - 'A' + 10 : -1;
-}
-
-/* The pairs of the characters from `at` up to `end`, without their line end; 0 where they are none. */
-static int spell(const uint8_t *text, size_t at, size_t end, Line *line)
-{
-    line->count = 0;
-    if (at == end || text[at] != ':' || (end - at) % 2 == 0)
-        return 0;
-    for (size_t i = at + 1; i < end; i += 2) {
-        int high = digit(text[i]), low = digit(text[i + 1]);
-        if (high < 0 || low < 0 || line->count == sizeof line->pairs)
-            return 0;
-        line->pairs[line->count++] = (uint8_t)(16 * high + low);
-    }
-    return line->count >= 5 && line->count == line->pairs[0] + 5u;
-}
-
-static TealsettleRead refused(uint32_t number, size_t place)
-{
-    return (TealsettleRead){number, place, 0};
-}
-
-static unsigned sum_of(const Line *line)
-{
-    unsigned sum = 0;
-    for (size_t i = 0; i < line->count; i++)
-        sum += line->pairs[i];
-    return sum % 256;
-}
-
-static TealsettleRead model(const uint8_t *text, size_t length, uint8_t *out, size_t room)
-{
-    static uint8_t image[1 << 20];
-    static Line line;
-    size_t at = 0, image_length = 0;
-    uint64_t upper = 0;
-    int ended = 0;
-    while (at < length) {
-        const uint8_t *feed = memchr(text + at, '\n', length - at);
-        if (ended)
-            return refused(18, at);
-        if (!feed)
-            return refused(14, at);
-        size_t end = (size_t)(feed - text), next = end + 1;
-        if (end > at && text[end - 1] == '\r')
-            end--;
-        if (!spell(text, at, end, &line))
-            return refused(14, at);
-        if (sum_of(&line) != 0)
-            return refused(15, at);
-        unsigned count = line.pairs[0], address = line.pairs[1] * 256u + line.pairs[2], type = line.pairs[3];
-        int fits = type == 0 ? count >= 1 : address == 0 && ((type == 1 && count == 0) || (type == 4 && count == 2));
-        if (!fits)
-            return refused(16, at);
-        if (type == 0 && (upper * 65536 + address != image_length || address + count > 65536))
-            return refused(17, at);
-        if (type == 0) {
-            memcpy(image + image_length, line.pairs + 4, count);
-            image_length += count;
-        } else if (type == 4) {
-            upper = line.pairs[4] * 256u + line.pairs[5];
-        } else {
-            ended = 1;
-        }
-        at = next;
-    }
-    if (!ended)
-        return refused(18, length);
-    if (image_length > room)
-        return refused(19, 0);
-    memcpy(out, image, image_length);
-    return (TealsettleRead){0, 0, image_length};
-}
-
 /* Texts. */
 
 static uint8_t text[1 << 19];
 static size_t length;
+
+static void put_pairs(const uint8_t *pairs, unsigned count)
+{
+    for (unsigned i = 0; i < count; i++)
+        length += (size_t)sprintf((char *)text + length, "%02X", pairs[i]);
+}
 
 static void put_record(unsigned address, unsigned type, const uint8_t *data, unsigned count, int cr)
 {
@@ -123,30 +38,40 @@ static void put_record(unsigned address, unsigned type, const uint8_t *data, uns
         sum += pairs[i];
     pairs[count + 4] = (uint8_t)(0 - sum);
     text[length++] = ':';
-    for (unsigned i = 0; i < count + 5; i++)
-        length += (size_t)sprintf((char *)text + length, "%02X", pairs[i]);
+    put_pairs(pairs, count + 5);
     if (cr)
         text[length++] = '\r';
     text[length++] = '\n';
 }
 
-/* A file of a few records, now and then with a wrong address, type, count or line end. */
+static void fill(uint8_t *data, unsigned count)
+{
+    for (unsigned j = 0; j < count; j++)
+        data[j] = (uint8_t)below(256);
+}
+
+/* A data record, now and then after one of type 04, and now and then with a wrong address, type, count or line end.
+ * Returns the address after it. */
+static unsigned put_some_record(unsigned address, int cr, uint8_t *data)
+{
+    uint8_t half[2] = {0, (uint8_t)(one_in(8) ? below(3) : 0)};
+    unsigned count = one_in(60) ? 0 : 1 + below(one_in(10) ? 255 : 20);
+    fill(data, count);
+    if (one_in(20))
+        put_record(one_in(10) ? below(300) : 0, 4, half, one_in(10) ? below(3) : 2, cr);
+    put_record(address + (one_in(40) ? below(3) : 0), one_in(60) ? below(7) : 0, data, count, one_in(30) ? !cr : cr);
+    return address + count;
+}
+
+/* A file of a few records, now and then with a wrong end. */
 static void make_file(void)
 {
-    uint8_t data[256];
+    uint8_t data[256] = {MARK}; /* never read uninitialised, also where no record came */
     unsigned next = 0, lines = below(6);
     int cr = one_in(2);
     length = 0;
-    for (unsigned i = 0; i < lines; i++) {
-        uint8_t half[2] = {0, (uint8_t)(one_in(8) ? below(3) : 0)};
-        unsigned count = one_in(60) ? 0 : 1 + below(one_in(10) ? 255 : 20);
-        for (unsigned j = 0; j < count; j++)
-            data[j] = (uint8_t)below(256);
-        if (one_in(20))
-            put_record(one_in(10) ? below(300) : 0, 4, half, one_in(10) ? below(3) : 2, cr);
-        put_record(next + (one_in(40) ? below(3) : 0), one_in(60) ? below(7) : 0, data, count, one_in(30) ? !cr : cr);
-        next += count;
-    }
+    for (unsigned i = 0; i < lines; i++)
+        next = put_some_record(next, cr, data);
     if (!one_in(12))
         put_record(one_in(50) ? below(3) : 0, 1, data, one_in(50) ? below(2) : 0, cr);
     if (one_in(12))
@@ -199,12 +124,13 @@ static const File files[] = {
     {65536, 16, 0, 0, 0, 0},
     {65537, 16, 0, 1, 0, 0},
     {FILE_ROOM, 32, 0, 1, 0, 0},
-    {FILE_ROOM + 1, 32, 0, 1, 19, 0},
+    {FILE_ROOM + 1, 32, 0, 1, TEALSETTLE_NO_ROOM, 0},
     /* a record past a multiple of 65,536 */
-    {70000, 48, 0, 1, 17, 147436},
+    {70000, 48, 0, 1, TEALSETTLE_BAD_ADDRESS, 147436},
+    {65537, 255, 0, 1, TEALSETTLE_BAD_ADDRESS, 134170}, /* by one byte */
     /* no type 04 record at 65,536: addresses do not wrap */
-    {65552, 16, 0, 0, 17, 180240},
-    {65552, 16, 1, 0, 17, 184337},
+    {65552, 16, 0, 0, TEALSETTLE_BAD_ADDRESS, 180240},
+    {65552, 16, 1, 0, TEALSETTLE_BAD_ADDRESS, 184337},
 };
 
 enum { FILES = sizeof files / sizeof files[0] };
@@ -222,7 +148,7 @@ static void put_image(const uint8_t *image, const File *file)
     put_record(0, 1, image, 0, file->cr);
 }
 
-/* 0 where a file is answered otherwise than it should be, by the library or by the model. */
+/* 0 where a file is answered otherwise than it should be, by the library or by the reference. */
 static int file_answered(const File *file)
 {
     static uint8_t image[FILE_ROOM + 1], ours[FILE_ROOM], theirs[FILE_ROOM], expected[FILE_ROOM];
@@ -235,39 +161,52 @@ static int file_answered(const File *file)
     memset(expected, MARK, sizeof expected);
     memcpy(expected, image, read);
     TealsettleRead r = tealsettle_mcs_read(text, length, ours, sizeof ours);
-    TealsettleRead m = model(text, length, theirs, sizeof theirs);
+    ReferenceRead m = reference_mcs_read(text, length, theirs, sizeof theirs);
     return r.number == file->number && r.place == file->place && r.length == read && m.number == r.number && m.place == r.place &&
            m.length == r.length && memcmp(ours, expected, sizeof ours) == 0 && memcmp(theirs, expected, sizeof theirs) == 0;
 }
 
-int main(void)
+static long answers[NUMBERS];
+
+static int text_differs(size_t room)
 {
     static uint8_t ours[ROOM + 8], theirs[ROOM + 8];
-    long answers[32] = {0};
-    for (long i = 0; i < TEXTS; i++) {
-        make_file();
-        for (unsigned k = one_in(3) ? 1 + below(2) : 0; k > 0; k--)
-            damage();
-        size_t room = one_in(8) ? below(60) : ROOM;
-        memset(ours, MARK, sizeof ours);
-        memset(theirs, MARK, sizeof theirs);
-        TealsettleRead r = tealsettle_mcs_read(text, length, ours, room);
-        TealsettleRead m = model(text, length, theirs, room);
-        if (r.number != m.number || r.place != m.place || r.length != m.length || memcmp(ours, theirs, sizeof ours) != 0) {
-            printf("text %ld: %u at %zu, %zu bytes, but the model says %u at %zu, %zu bytes\n%.*s\n", i, r.number, r.place, r.length,
-                   m.number, m.place, m.length, (int)length, (char *)text);
-            return 1;
-        }
-        answers[m.number]++;
-    }
+    memset(ours, MARK, sizeof ours);
+    memset(theirs, MARK, sizeof theirs);
+    TealsettleRead r = tealsettle_mcs_read(text, length, ours, room);
+    ReferenceRead m = reference_mcs_read(text, length, theirs, room);
+    tried++, answers[m.number]++;
+    return differs("number", r.number, m.number) || differs("place", r.place, m.place) || differs("length", r.length, m.length) ||
+           bytes_differ("the buffer's bytes", ours, theirs, sizeof ours);
+}
+
+static int try_text(void)
+{
+    make_file();
+    for (unsigned k = one_in(3) ? 1 + below(2) : 0; k > 0; k--)
+        damage();
+    if (!text_differs(one_in(8) ? below(60) : ROOM))
+        return 0;
+    printf("%.*s\n", (int)length, (char *)text);
+    return 1;
+}
+
+static int try_files(void)
+{
     for (int i = 0; i < FILES; i++)
         if (!file_answered(&files[i])) {
             printf("file %d of %zu bytes is answered otherwise\n", i, files[i].image_length);
             return 1;
         }
-    printf("host test: %d files and %d MCS texts tried, none differs (read %ld", FILES, TEXTS, answers[0]);
-    for (int n = 14; n <= 19; n++)
-        printf(", %d %ld", n, answers[n]);
+    return 0;
+}
+
+int main(void)
+{
+    if (try_often(TEXTS, try_text) || try_files())
+        return 1;
+    printf("host test: %d files and %ld MCS texts tried, none differs (read %ld", FILES, tried, answers[0]);
+    print_refusals(answers);
     printf(")\n");
     return 0;
 }

@@ -1,30 +1,30 @@
-/* A run's calls beside the model in run.h: tealsettle_order, tealsettle_reply, tealsettle_finished,
+/* A run's calls beside the reference: tealsettle_order, tealsettle_reply, tealsettle_finished,
  * tealsettle_total and tealsettle_start, with states that fit and states that do not, true replies and
  * others. Every field is compared. Prints how many were tried. */
-#include "run.h"
+#include "compare.h"
+#include "make.h"
 
-enum { STATES = 1500000, STARTS = 300000, LARGEST = 16777216 };
+enum { STATES = 1500000, STARTS = 300000, LARGEST = REFERENCE_CHIP_MAX };
 
 static uint8_t image[LARGEST];
-static Reading alone;
-static long answers[32];
+static long answers[NUMBERS];
 
-static uint32_t some_kind(void)
+static uint32_t some_stop(void)
 {
-    return one_in(50) ? 1 + (uint32_t)below(one_in(2) ? 3 : 0xFFFFFFFFu) : TEALSETTLE_SPI;
+    return TEALSETTLE_SWITCH_NOT_ERASED + (uint32_t)below(3);
 }
 
-static State some_state(void)
+static ReferenceState some_state(void)
 {
-    State s = {0};
+    ReferenceState s = {0};
     s.length = one_in(20) ? LARGEST : some_multiple(16384, 65536);
     s.update = some_multiple(12288, s.length - 4096);
     s.area = some_multiple(4096, s.length - s.update);
-    s.image_length = one_in(5) ? s.area : 1 + below(one_in(2) ? 600 < s.area ? 600 : s.area : s.area);
+    s.image_length = one_in(5) ? s.area : 1 + below(one_in(2) ? min(s.area, 600) : s.area);
     s.phase = (uint32_t)below(8);
-    size_t orders = orders_in_phase(s);
-    s.index = s.phase == 7 ? 0 : one_in(3) ? orders - 1 : below(orders);
-    s.outcome = s.phase == 7 && one_in(2) ? 10 + (uint32_t)below(3) : 0;
+    size_t orders = reference_orders_in_phase(&s);
+    s.index = s.phase == REFERENCE_ENDED ? 0 : one_in(3) ? orders - 1 : below(orders);
+    s.outcome = s.phase == REFERENCE_ENDED && one_in(2) ? some_stop() : 0;
     return s;
 }
 
@@ -35,7 +35,7 @@ static size_t near(size_t n)
 }
 
 /* One number of a state, changed. */
-static void change(State *s)
+static void change(ReferenceState *s)
 {
     switch (below(7)) {
     case 0:
@@ -54,7 +54,7 @@ static void change(State *s)
         s->phase = one_in(4) ? (uint32_t)next_random() : (uint32_t)below(10);
         break;
     case 5:
-        s->index = one_in(2) ? orders_in_phase(*s) : near(s->index);
+        s->index = one_in(2) ? reference_orders_in_phase(s) : near(s->index);
         break;
     default:
         s->outcome = one_in(4) ? (uint32_t)next_random() : (uint32_t)below(16);
@@ -62,58 +62,68 @@ static void change(State *s)
     }
 }
 
-static int try_reply(uint32_t kind, State s, size_t lent)
-{
+typedef struct {
+    uint32_t kind;
     uint8_t bytes[300];
-    uint32_t said = (uint32_t)below(3);
-    size_t length = one_in(2) ? 0 : below(sizeof bytes);
-    memset(bytes, 0xFF, sizeof bytes);
-    if (state_fits(s, lent) && s.phase < 7 && !one_in(8)) {
-        Order o = order_of(s, image);
-        said = o.operation == TEALSETTLE_LOOK ? TEALSETTLE_READ : TEALSETTLE_DONE;
-        length = said == TEALSETTLE_READ ? o.length : 0;
-        memcpy(bytes, o.bytes, sizeof o.bytes);
-    }
-    if (one_in(20))
-        length = length > 0 && one_in(2) ? length - 1 : length + 1;
-    if (one_in(20))
-        said = one_in(2) ? 1 - said : (uint32_t)next_random();
-    for (size_t i = one_in(3) ? 1 + below(3) : 0; i > 0; i--)
-        bytes[length > 0 ? below(length) : 0] ^= (uint8_t)(1u << below(8));
-    TealsettleReply m = model_reply(kind, s, image, lent, said, bytes, length);
-    answers[m.number]++;
-    return reply_differs(tealsettle_reply(kind, TEALSETTLE_STATE(s), image, lent, said, bytes, length), m);
+    size_t length;
+} Reply;
+
+/* The true reply to an order, on a chip that is as it should be. */
+static void make_true(Reply *r, ReferenceState s, const ReferenceOrder *o)
+{
+    uint8_t padded_page[TEALSETTLE_PAGE];
+    int look = o->operation == TEALSETTLE_LOOK;
+    r->kind = look ? TEALSETTLE_READ : TEALSETTLE_DONE;
+    r->length = look ? o->length : 0;
+    memcpy(r->bytes, reference_expected_bytes(&s, image, padded_page), r->length);
 }
 
-static int try_total(uint32_t kind, State s)
+/* A reply, true or not, and now and then a little changed. */
+static void make_reply(Reply *r, ReferenceState s, size_t lent)
 {
-    TealsettleTotal r = tealsettle_total(kind, s.length, s.update, s.area, s.image_length);
-    uint32_t number = kind == TEALSETTLE_SPI ? model_layout(s.length, s.update, s.area) : 1;
-    if (number == 0 && (s.image_length == 0 || s.image_length > s.area))
-        number = 4;
-    return differs("total: number", r.number, number) || differs("total: place", r.place, 0) ||
-           differs("total: orders", r.orders, number == 0 ? orders_in_all(s) : 0);
+    ReferenceOrder o;
+    r->kind = (uint32_t)below(3);
+    r->length = one_in(2) ? 0 : below(sizeof r->bytes);
+    memset(r->bytes, 0xFF, sizeof r->bytes);
+    if (reference_order(&s, image, lent, &o) == 0 && !one_in(8))
+        make_true(r, s, &o);
+    if (one_in(20))
+        r->length = r->length > 0 && one_in(2) ? r->length - 1 : r->length + 1;
+    if (one_in(20))
+        r->kind = one_in(2) ? 1 - r->kind : (uint32_t)next_random();
+    for (size_t i = one_in(3) ? 1 + below(3) : 0; i > 0; i--)
+        r->bytes[r->length > 0 ? below(r->length) : 0] ^= (uint8_t)(1u << below(8));
+}
+
+static int try_reply(uint32_t kind, ReferenceState s, size_t lent)
+{
+    Reply r;
+    make_reply(&r, s, lent);
+    ExpectedReply e = expected_reply(kind, s, image, lent, r.kind, r.bytes, r.length);
+    answers[e.number]++;
+    return reply_differs(tealsettle_reply(kind, TEALSETTLE_STATE(s), image, lent, r.kind, r.bytes, r.length), e);
 }
 
 static int try_state(void)
 {
     uint32_t kind = some_kind();
-    State s = some_state();
+    ReferenceState s = some_state();
     if (one_in(3))
         change(&s);
     size_t lent = s.image_length <= LARGEST ? s.image_length : below(5000);
     if (one_in(20))
         lent = below(5000);
+    TealsettleOrder order = tealsettle_order(kind, TEALSETTLE_STATE(s), image, lent);
     tried++;
-    return order_differs(kind, s, image, lent, tealsettle_order(kind, TEALSETTLE_STATE(s), image, lent)) || try_reply(kind, s, lent) ||
-           finished_differs(kind, s, tealsettle_finished(kind, TEALSETTLE_STATE(s))) || try_total(kind, s);
+    return order_differs(kind, s, image, lent, &order) || try_reply(kind, s, lent) ||
+           finished_differs(kind, s, tealsettle_finished(kind, TEALSETTLE_STATE(s))) ||
+           total_differs(kind, s, tealsettle_total(kind, s.length, s.update, s.area, s.image_length));
 }
 
 static int try_start(void)
 {
     uint32_t kind = some_kind();
-    State s = some_state();
-    TealsettleStart r;
+    ReferenceState s = some_state();
     make_stream(below(8), one_in(3));
     if (one_in(5))
         damage_stream();
@@ -122,8 +132,9 @@ static int try_start(void)
         change(&s);
     if (s.image_length > sizeof stream)
         s.image_length = below(sizeof stream);
+    TealsettleStart r = tealsettle_start(kind, s.length, s.update, s.area, stream, s.image_length);
     tried++;
-    if (start_differs(kind, s, stream, &r, &alone))
+    if (start_differs(kind, s, stream, r))
         return 1;
     answers[r.number]++;
     return 0;
@@ -131,17 +142,11 @@ static int try_start(void)
 
 int main(void)
 {
-    for (size_t i = 0; i < sizeof image; i++)
-        image[i] = (uint8_t)next_random();
-    for (long i = 0; i < STATES; i++)
-        if (try_state())
-            return 1;
-    for (long i = 0; i < STARTS; i++)
-        if (try_start())
-            return 1;
+    fill_random(image, sizeof image);
+    if (try_often(STATES, try_state) || try_often(STARTS, try_start))
+        return 1;
     printf("host test: %ld states and starts tried, none differs (good %ld", tried, answers[0]);
-    for (int n = 1; n <= 12; n++)
-        printf(", %d %ld", n, answers[n]);
+    print_refusals(answers);
     printf(")\n");
     return 0;
 }

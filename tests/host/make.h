@@ -1,13 +1,14 @@
-/* What the tests of chips share: random numbers, a model of the configuration reader, and random packet
- * streams. The model is written from the specification and shares nothing with the library: it takes
- * one word after the other and keeps every write. */
-#ifndef READER_H
-#define READER_H
+/* What the tests of chips are made of: random numbers, layouts, packet streams and images. Nothing here reads a
+ * stream: what an image loads is known from its making. */
+#ifndef MAKE_H
+#define MAKE_H
 
 #include <stdint.h>
-#include <stdio.h>
-#include <stdlib.h>
 #include <string.h>
+
+#include "../../include/tealsettle.h"
+
+static const uint8_t ON[4] = {0xAA, 0x99, 0x55, 0x66};
 
 /* Random numbers. */
 
@@ -29,139 +30,23 @@ static inline int one_in(unsigned n)
     return below(n) == 0;
 }
 
-/* The reader. */
-
-enum { KEPT = 1 << 15 };
-
-enum { LOADED, STUCK, NO_JUMP_LEFT };
-
-typedef struct {
-    uint32_t reg, word;
-    size_t place;
-} Write;
-
-typedef struct {
-    int what;
-    size_t place; /* of the faulty word, or the length where bytes ran out */
-    size_t sync, end, writes;
-    int jumped;
-    Write list[KEPT];
-} Reading;
-
-/* Where reading is: the bytes, the next place, and what the word there is. */
-typedef struct {
-    const uint8_t *bytes;
-    size_t length, at;
-    int synced, jumps;
-    uint32_t reg, left, wbstar;
-    int opened; /* the word just before is a type 1 write header of count 0 */
-} Reader;
-
-static inline int end_with(Reading *r, int what, size_t place)
+static inline void fill_random(uint8_t *bytes, size_t length)
 {
-    r->what = what;
-    r->place = place;
-    return 0;
+    for (size_t i = 0; i < length; i++)
+        bytes[i] = (uint8_t)next_random();
 }
 
-/* A data word of a packet. 0: it ends the reading. */
-static inline int take_data(Reader *m, uint32_t word, Reading *r)
+static inline size_t min(size_t a, size_t b)
 {
-    if (r->writes < KEPT)
-        r->list[r->writes] = (Write){m->reg, word, m->at};
-    r->writes++, m->left--, m->at += 4;
-    if (m->reg == 16)
-        m->wbstar = word;
-    if (m->reg == 4 && word == 0x0000000D) {
-        r->end = m->at;
-        return end_with(r, LOADED, 0);
-    }
-    if (m->reg == 4 && word == 0x0000000F) {
-        if (m->jumps == 0)
-            return end_with(r, NO_JUMP_LEFT, m->at - 4);
-        if ((m->wbstar & 0x1FFFFFFF) >= m->length)
-            return end_with(r, STUCK, m->at - 4);
-        m->jumps--, r->jumped = 1, m->synced = 0, m->at = m->wbstar & 0x1FFFFFFF;
-    }
-    return 1;
+    return a < b ? a : b;
 }
 
-/* A packet header. 0: it is none. */
-static inline int take_header(Reader *m, uint32_t word, Reading *r)
+/* Kinds and layouts. */
+
+static inline uint32_t some_kind(void)
 {
-    if ((word & 0xF8000000u) == 0x50000000u && m->opened)
-        m->left = word & 0x07FFFFFFu, m->opened = 0;
-    else if ((word & 0xFFFC1800u) == 0x30000000u)
-        m->reg = word >> 13 & 31, m->left = word & 0x7FF, m->opened = m->left == 0;
-    else if (word == 0x20000000u)
-        m->opened = 0;
-    else
-        return end_with(r, STUCK, m->at);
-    m->at += 4;
-    return 1;
+    return one_in(50) ? 1 + (uint32_t)below(one_in(2) ? 3 : 0xFFFFFFFFu) : TEALSETTLE_SPI;
 }
-
-/* One place of the search. */
-static inline void seek(Reader *m, uint32_t word, Reading *r)
-{
-    if (word != 0xAA995566u) {
-        m->at++;
-        return;
-    }
-    r->sync = m->at, r->writes = 0;
-    m->synced = 1, m->left = 0, m->opened = 0, m->wbstar = 0, m->at += 4;
-}
-
-/* Reads bytes from the first on, with so many jumps. */
-static inline void read_words(const uint8_t *bytes, size_t length, int jumps, Reading *r)
-{
-    Reader m = {bytes, length, 0, 0, jumps, 0, 0, 0, 0};
-    int more = 1;
-    r->jumped = 0;
-    while (more) {
-        if (length < 4 || m.at > length - 4) {
-            end_with(r, STUCK, length);
-            return;
-        }
-        const uint8_t *b = bytes + m.at;
-        uint32_t word = (uint32_t)b[0] << 24 | (uint32_t)b[1] << 16 | (uint32_t)b[2] << 8 | b[3];
-        if (!m.synced)
-            seek(&m, word, r);
-        else
-            more = m.left > 0 ? take_data(&m, word, r) : take_header(&m, word, r);
-    }
-}
-
-/* The questions that several calls ask: the number of the refusal, or 0. */
-
-static inline int length_allowed(size_t length)
-{
-    return length % 4096 == 0 && length / 4096 >= 4 && length / 4096 <= 4096;
-}
-
-static inline uint32_t model_layout(size_t length, size_t update, size_t area)
-{
-    if (!length_allowed(length))
-        return 1;
-    if (update % 4096 != 0 || update < 12288 || update >= length)
-        return 2;
-    return area % 4096 == 0 && area >= 4096 && area <= length - update ? 0 : 3;
-}
-
-/* Of an image for an area of so many bytes. */
-static inline uint32_t model_image(const uint8_t *image, size_t length, size_t most, size_t *place, Reading *r)
-{
-    *place = 0;
-    if (length == 0 || length > most)
-        return 4;
-    read_words(image, length, 0, r);
-    if (r->what == LOADED)
-        return 0;
-    *place = r->place;
-    return r->what == STUCK ? 5 : 6;
-}
-
-/* Layouts. */
 
 static inline size_t some_multiple(size_t least, size_t most)
 {
@@ -170,8 +55,23 @@ static inline size_t some_multiple(size_t least, size_t most)
 
 /* Packet streams. */
 
-static uint8_t stream[1 << 16];
+enum { STREAM = 1 << 16 };
+
+static uint8_t stream[STREAM];
 static size_t stream_length;
+
+typedef struct {
+    uint32_t register_number, word;
+    size_t place;
+} MadeWrite;
+
+/* What the stream loads, as it was put down: true of a stream in which nothing is wrong. */
+typedef struct {
+    size_t sync, end, writes;
+    MadeWrite list[STREAM / 4];
+} Made;
+
+static Made made;
 
 static inline void put_word(uint32_t word)
 {
@@ -182,6 +82,12 @@ static inline void put_word(uint32_t word)
 static inline void put_header(uint32_t reg, uint32_t count)
 {
     put_word(0x30000000u | reg << 13 | count);
+}
+
+static inline void put_write(uint32_t reg, uint32_t word)
+{
+    made.list[made.writes++] = (MadeWrite){reg, word, stream_length};
+    put_word(word);
 }
 
 /* A word that is likely to be mistaken for another. */
@@ -203,7 +109,7 @@ static inline uint32_t data_word(uint32_t reg, int wrong)
 static inline void put_data(uint32_t reg, uint32_t count, int wrong)
 {
     while (count-- > 0)
-        put_word(data_word(reg, wrong));
+        put_write(reg, data_word(reg, wrong));
 }
 
 static inline uint32_t some_count(void)
@@ -257,16 +163,18 @@ static inline void make_stream(size_t packets, int wrong)
 {
     stream_length = 0;
     put_lead();
+    made.sync = stream_length, made.writes = 0;
     put_word(0xAA995566u);
     for (size_t i = 0; i < packets; i++)
         put_packet(wrong);
     if (!(wrong && one_in(6))) {
         put_header(4, 1);
-        put_word(wrong && one_in(8) ? 0x0000000F : 0x0000000D);
+        put_write(4, wrong && one_in(8) ? 0x0000000F : 0x0000000D);
     }
-    if (one_in(3))
-        for (size_t i = below(24); i > 0; i--)
-            stream[stream_length++] = (uint8_t)next_random();
+    made.end = stream_length;
+    size_t after = one_in(3) ? below(24) : 0;
+    fill_random(stream + stream_length, after);
+    stream_length += after;
 }
 
 /* One damage: a byte or a bit changed, bytes cut off, taken out or put in. */
@@ -297,6 +205,29 @@ static inline void damage_stream(void)
         stream_length++;
         break;
     }
+}
+
+/* Images. */
+
+/* Does a sync word stand in what was put before the stream's own? Then that one is found. */
+static inline int lead_has_sync(void)
+{
+    for (size_t i = 0; i < made.sync; i++)
+        if (memcmp(stream + i, ON, 4) == 0) /* the switch is ON by a sync word */
+            return 1;
+    return 0;
+}
+
+/* An accepted image of at most so many bytes, now and then just as many; what it loads is what was made. */
+static inline size_t some_image(uint8_t *image, size_t most)
+{
+    do
+        make_stream(one_in(8) ? below(60) : below(8), 0);
+    while (stream_length > most || lead_has_sync());
+    size_t length = one_in(6) ? most : one_in(3) ? stream_length + below(most - stream_length + 1) : stream_length;
+    memcpy(image, stream, stream_length);
+    fill_random(image + stream_length, length - stream_length);
+    return length;
 }
 
 #endif

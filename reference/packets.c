@@ -1,0 +1,157 @@
+/* The configuration reader: the search looks at every byte, and every word after it is visited. */
+#include "reference.h"
+
+#include <string.h>
+
+#define SYNC 0xAA995566u
+#define NOP 0x20000000u
+#define DESYNC 0x0000000Du
+#define IPROG 0x0000000Fu
+
+enum { CMD = 4, WBSTAR = 16 };
+
+/* How a reading of packets goes, or ends. */
+typedef enum { GOING, ENDED, JUMPS, FAULT, SHORT } Status;
+
+/* Where a reading is: the next word, the packet it stands in, and what was met so far. */
+typedef struct {
+    size_t at, writes;
+    uint32_t reg, left, wbstar;
+    int opened; /* the word just before is a type 1 write header of count 0 */
+} Scanner;
+
+/* Where writes are listed. Without a list they are only counted; all that takes a sink is inlined, so that a
+ * constant null leaves no trace in the loop. */
+typedef struct {
+    ReferenceWrite *list;
+    size_t room;
+} Sink;
+
+static inline uint32_t word_at(const uint8_t *bytes)
+{
+    uint32_t word;
+    memcpy(&word, bytes, sizeof word);
+    return __builtin_bswap32(word);
+}
+
+/* The first place from `at` on where the sync word stands; `length` where there is none. */
+static inline size_t find_sync(const uint8_t *bytes, size_t length, size_t at)
+{
+    for (; at + 4 <= length; at++)
+        if (word_at(bytes + at) == SYNC)
+            return at;
+    return length;
+}
+
+static inline Status take_header(const uint8_t *bytes, size_t length, Scanner *s)
+{
+    if (length - s->at < 4)
+        return SHORT;
+    uint32_t word = word_at(bytes + s->at);
+    if ((word & 0xFFFC1800u) == 0x30000000u)
+        s->reg = word >> 13 & 31, s->left = word & 0x7FF, s->opened = s->left == 0;
+    else if (word == NOP)
+        s->opened = 0;
+    else if ((word & 0xF8000000u) == 0x50000000u && s->opened)
+        s->left = word & 0x07FFFFFF, s->opened = 0;
+    else
+        return FAULT;
+    s->at += 4;
+    return GOING;
+}
+
+/* An IPROG is a write too, but it ends its list: so it need not be counted. */
+static inline Status take_data(const uint8_t *bytes, size_t length, Scanner *s, Sink sink)
+{
+    for (; s->left > 0; s->left--) {
+        if (length - s->at < 4)
+            return SHORT;
+        uint32_t word = word_at(bytes + s->at);
+        if (s->reg == CMD && word == IPROG)
+            return JUMPS;
+        if (sink.list && s->writes < sink.room)
+            sink.list[s->writes] = (ReferenceWrite){s->reg, word, s->at};
+        s->at += 4, s->writes++;
+        if (s->reg == CMD && word == DESYNC)
+            return ENDED;
+        if (s->reg == WBSTAR)
+            s->wbstar = word;
+    }
+    return GOING;
+}
+
+static inline Status read_packets(const uint8_t *bytes, size_t length, Scanner *scanner, Sink sink)
+{
+    Scanner s = *scanner; /* in registers */
+    Status status;
+    do {
+        status = take_header(bytes, length, &s);
+        if (status == GOING)
+            status = take_data(bytes, length, &s, sink);
+    } while (status == GOING);
+    *scanner = s;
+    return status;
+}
+
+static inline ReferenceBoot stuck_at(uint32_t number, size_t place)
+{
+    return (ReferenceBoot){.number = number, .place = place, .stuck = 1};
+}
+
+/* Reads from byte 0 on, with so many jumps. What is stuck has the number that an image is then refused with. */
+static inline __attribute__((always_inline)) ReferenceBoot read_all(const uint8_t *bytes, size_t length, int jumps, Sink sink)
+{
+    ReferenceBoot boot = {0};
+    size_t from = 0;
+    for (;;) {
+        boot.sync = find_sync(bytes, length, from);
+        if (boot.sync == length)
+            return stuck_at(TEALSETTLE_IMAGE_FAULT, length);
+        Scanner s = {.at = boot.sync + 4};
+        Status status = read_packets(bytes, length, &s, sink);
+        if (status == ENDED) {
+            boot.end = s.at, boot.writes = s.writes;
+            return boot;
+        }
+        if (status != JUMPS)
+            return stuck_at(TEALSETTLE_IMAGE_FAULT, status == FAULT ? s.at : length);
+        from = s.wbstar & 0x1FFFFFFF;
+        if (boot.jumped == jumps)
+            return stuck_at(TEALSETTLE_IMAGE_JUMPS, s.at);
+        if (from >= length)
+            return stuck_at(TEALSETTLE_IMAGE_FAULT, s.at);
+        boot.jumped++;
+    }
+}
+
+static ReferenceBoot read_and_count(const uint8_t *bytes, size_t length, int jumps)
+{
+    return read_all(bytes, length, jumps, (Sink){NULL, 0});
+}
+
+ReferenceBoot reference_boot(const uint8_t *chip, size_t length)
+{
+    if (!reference_length_allowed(length))
+        return (ReferenceBoot){.number = TEALSETTLE_BAD_CHIP_LENGTH};
+    ReferenceBoot boot = read_and_count(chip, length, 1);
+    boot.number = 0; /* a chip that is stuck is an answer */
+    return boot;
+}
+
+ReferenceBoot reference_boot_list(const uint8_t *chip, size_t length, ReferenceWrite *list, size_t room)
+{
+    if (!reference_length_allowed(length))
+        return (ReferenceBoot){.number = TEALSETTLE_BAD_CHIP_LENGTH};
+    ReferenceBoot boot = read_all(chip, length, 1, (Sink){list, room});
+    boot.number = 0;
+    return boot;
+}
+
+ReferenceBoot reference_image_check(const uint8_t *image, size_t length, size_t most)
+{
+    if (length == 0 || length > most)
+        return (ReferenceBoot){.number = TEALSETTLE_BAD_IMAGE_LENGTH};
+    ReferenceBoot boot = read_and_count(image, length, 0);
+    boot.stuck = 0;
+    return boot;
+}
