@@ -1,36 +1,36 @@
 #!/usr/bin/env python3
-"""Keeps docs/PROOFS.md as the source is.
+"""Keeps docs/CONTRACTS.md and the quoted definitions of docs/PROOFS.md as the source is.
 
-    python3 docs/proofs.py            writes the generated parts of docs/PROOFS.md anew, then checks
+    python3 docs/proofs.py            writes both anew, then checks
     python3 docs/proofs.py --check    only checks: a line for each problem, and exit status 1 if there is one
 
-A generated part stands between two comments, `<!-- WHAT -->` and `<!-- end -->`. WHAT is one of
-    contract CRATE::MODULE::CALL      a public call's contract as the source has it, and the definitions it cites
-    definition CRATE/FILE NAME        a definition as the source has it
-    edits CRATE/LABEL CRATE/LABEL ..  these must-fail edits, each with its own first line
-    laws                              the laws that each crate offers to those above
-    all edits                         every must-fail edit of the repository
+CONTRACTS.md is wholly made. In PROOFS.md a definition stands between `<!-- definition CRATE/FILE NAME -->` and
+`<!-- end -->`. A must-fail edit says in its second line which public calls it shows: `# shows: CALL, CALL`.
 
-Checked: every public function of a library has an `ensures`, and every public call an entry and no `requires`; an
-entry has two wrong answers and two must-fail edits; every generated part is what it would be now; every
-[`name`](file) names something that the file declares; every edit named in the text exists; and every relative
-link of README.md and docs/*.md leads to a file or to a heading of its page.
+Checked: both pages are what they would be now, and no page is too long; every public function of a library has an
+`ensures`, and every public call no `requires` and two must-fail edits; every [`name`](file) names something that the
+file declares, every edit named in PROOFS.md exists, and every relative link of README.md and docs/*.md leads to a
+file or a heading; and `specs/` mirrors `src/`: where a module's contracts cite definitions of its own crate there is a
+file of definitions of its name.
 """
 import re
 import sys
 import textwrap
+from itertools import takewhile
 from pathlib import Path
 from typing import NamedTuple
 
 ROOT = Path(__file__).resolve().parent.parent
-PAGE = ROOT / 'docs' / 'PROOFS.md'
+README, PROOFS, CONTRACTS = ROOT / 'README.md', ROOT / 'docs' / 'PROOFS.md', ROOT / 'docs' / 'CONTRACTS.md'
+LONGEST = {README: 130, PROOFS: 500}
 WIDTH = 110
 
 # What is public only so that a crate above can use it: whole crates, modules and functions. These are no calls of the
-# library: they may ask something of their caller, and the page has no entry for them.
+# library: they may ask something of their caller, and CONTRACTS.md has no entry for them.
 INTERNAL = (
     'base', 'framing', 'packets', 'scanner', 'fastpath', 'writes::reading', 'writes::cursor::Cursor::new',
-    'writes::cursor::nth_from', 'configreader', 'digits', 'mcsline', 'comparison', 'orders', 'updater::current', 'effects',
+    'writes::cursor::nth_from', 'configreader', 'digits', 'mcsline', 'comparison', 'orders',
+    'updater::state::current_operation', 'updater::state::current_bytes', 'updater::state::after_order', 'effects',
     'fields', 'reportlines', 'loadlines', 'results', 'runresults')
 
 # Parts of the program that runs the cases. No promise rests on them: they print, and are proved to be safe and to end.
@@ -49,29 +49,46 @@ DECLARES = re.compile(
 PASSED_ON = re.compile(r'^(?:unfoldable )?pub use [^{]*\{([^}]*)\}', re.M)
 ITEM = r'^ *(?:pub(?:\(crate\))? )?(?:extern "C" )?(?:fn|struct|enum|const) {}\b'
 
-MARKER = re.compile(r'^<!-- (contract|definition|edits|laws|all edits)(?: (.*?))? -->$')
-END = '<!-- end -->'
+SHOWS = re.compile(r'^# shows: (.*)$', re.M)
+# No marker stands within a block: without its end one would take what was written by hand with it.
+BLOCK = re.compile(r'^<!-- definition (\S+) (\S+) -->\n((?:(?!<!--).*\n)*)<!-- end -->$', re.M)
 NAMED_LINK = re.compile(r'\[`([^`]+)`\]\(([^)#\s]+)\)')
 LINK = re.compile(r'\]\(([^)\s]+)\)')
 EDIT_NAME = re.compile(r'`([a-z]\w*/[a-z]\w*)`')
 
+INTRO = """\
+# Contracts
+
+Written by `python3 docs/proofs.py` from the source; a change by hand is lost.
+
+What every public call answers: its contract, the definitions that the contract cites, and the must-fail edits
+that the prover refuses because of it. None asks anything of its caller. In a contract `r` is the answer,
+`now (x .entry)` the bytes lent at the call, `now (x .exit)` those given back; of two clauses `answer` is about
+the result and `output` about the bytes lent to be written. [PROOFS.md](PROOFS.md) goes through the demands,
+[README.md](../README.md) has the numbers of refusals, and [include/tealsettle.h](../include/tealsettle.h) the
+functions for C. Functions of the crates between these are for the crates above them and no calls
+(`INTERNAL` in [proofs.py](proofs.py)).
+"""
+
 
 class Call(NamedTuple):
-    """A public function: its name with the crate's and the module's, its file, and its header with the clauses."""
+    """A public function: its name with the crate's and the module's, its file, its header, the comment above it."""
     name: str
     file: Path
     contract: str
-
-
-class Edit(NamedTuple):
-    """A must-fail edit: CRATE/LABEL, its file, and what its first line says."""
-    label: str
-    file: Path
     comment: str
 
 
+class Edit(NamedTuple):
+    """A must-fail edit: CRATE/LABEL, its file, what its first line says, and the calls that it shows."""
+    label: str
+    file: Path
+    comment: str
+    shows: tuple
+
+
 def read(path):
-    return path.read_text(encoding='utf-8')
+    return path.read_text(encoding='utf-8') if path.is_file() else ''
 
 
 def shown(path):
@@ -83,33 +100,43 @@ def link(name, path):
     return f'[`{name}`](../{shown(path)})'
 
 
+def joined(parts):
+    return [each for part in parts for each in part]
+
+
 # ---- the source
 
 def library_crates():
-    crates = sorted(lib.parent.parent for lib in ROOT.glob('crates/*/src/lib.rt'))
-    return [crate for crate in crates if crate.name not in PROGRAM_PARTS]
+    """From the bottom up, as crates.txt has them."""
+    names = re.findall(r'^(\w+):', read(ROOT / 'crates.txt'), re.M)
+    return [ROOT / 'crates' / name for name in names if is_library(name)]
+
+
+def is_library(name):
+    return name not in PROGRAM_PARTS and (ROOT / 'crates' / name / 'src' / 'lib.rt').is_file()
+
+
+def crate_of(file):
+    return ROOT / 'crates' / file.relative_to(ROOT / 'crates').parts[0]
 
 
 def module_of(file):
-    """crates/packets/src/chip.rt is packets::chip, and a crate's lib.rt the crate."""
-    src = next(parent for parent in file.parents if parent.name == 'src')
-    inside = file.relative_to(src).with_suffix('').parts
-    return '::'.join((src.parent.name, *(() if inside == ('lib',) else inside)))
+    """crates/packets/src/trace.rt is packets::trace, and a crate's lib.rt the crate."""
+    inside = file.relative_to(crate_of(file) / 'src').with_suffix('').parts
+    return '::'.join((crate_of(file).name, *(() if inside == ('lib',) else inside)))
 
 
-def calls_of(file):
-    lines = read(file).split('\n')
-    owner = None
-    for at, line in enumerate(lines):
-        implements = IMPL.match(line)
-        if implements:
-            owner = implements.group(1)
-        elif line.startswith('}'):
-            owner = None
-        header = PUBLIC.match(line)
-        if header:
-            name = '::'.join(filter(None, (module_of(file), owner, header.group(2))))
-            yield Call(name, file, header_from(lines, at, header.group(1)))
+def owner_of(lines, at):
+    """The type whose `impl` a line is in."""
+    last = next((line for line in reversed(lines[:at]) if line.startswith(('impl', '}'))), '')
+    opened = IMPL.match(last)
+    return opened.group(1) if opened else None
+
+
+def comment_above(lines, at):
+    above = takewhile(lambda line: line.lstrip().startswith(('//', '#[')), reversed(lines[:at]))
+    said = [line.strip(' /') for line in above if not line.lstrip().startswith('#[')]
+    return ' '.join(reversed(said))
 
 
 def header_from(lines, at, indent):
@@ -121,163 +148,170 @@ def header_from(lines, at, indent):
     return textwrap.dedent('\n'.join(lines[at:last]))
 
 
+def call_at(file, lines, at):
+    header = PUBLIC.match(lines[at])
+    name = '::'.join(filter(None, (module_of(file), owner_of(lines, at), header.group(2))))
+    return Call(name, file, header_from(lines, at, header.group(1)), comment_above(lines, at))
+
+
+def functions_of(file):
+    lines = read(file).split('\n')
+    return [call_at(file, lines, at) for at, line in enumerate(lines) if PUBLIC.match(line)]
+
+
 def is_internal(call):
     return any(f'{call.name}::'.startswith(f'{name}::') for name in INTERNAL)
 
 
+def modules():
+    return joined(sorted((crate / 'src').rglob('*.rt')) for crate in library_crates())
+
+
 def public_functions():
-    files = [file for crate in library_crates() for file in sorted((crate / 'src').rglob('*.rt'))]
-    return [call for file in files for call in calls_of(file)]
+    return joined(map(functions_of, modules()))
 
 
 def public_calls():
     return {call.name: call for call in public_functions() if not is_internal(call)}
 
 
+def edit_from(file):
+    text = read(file)
+    first = text.split('\n', 1)[0]
+    shows = SHOWS.search(text)
+    comment = first[1:].strip() if first.startswith('#') else ''
+    return Edit(f'{crate_of(file).name}/{file.stem}', file, comment, tuple(shows.group(1).split(', ') if shows else ()))
+
+
 def all_edits():
-    found = {}
-    for file in sorted(ROOT.glob('crates/*/must-fail/*.edit')):
-        label = f'{file.parent.parent.name}/{file.stem}'
-        first = read(file).split('\n', 1)[0]
-        found[label] = Edit(label, file, first[1:].strip() if first.startswith('#') else '')
-    return found
+    edits = map(edit_from, sorted(ROOT.glob('crates/*/must-fail/*.edit')))
+    return {edit.label: edit for edit in edits}
+
+
+def brought(crate, module, names):
+    """The definitions that one `ghost use` brings: the name used, then the name declared and its file."""
+    file = ROOT / 'crates' / crate / 'specs' / f'{module}.antt'
+    parts = [name.partition(' as ') for name in names.split(', ')]
+    return [(local or name, (name, file)) for name, _, local in parts]
 
 
 def cited(call):
     """The definitions of this repository's specs/ that a contract names, each with its file."""
-    offered = {}
-    for crate, module, names in GHOST_USE.findall(read(call.file)):
-        for name in names.split(', '):
-            declared, _, local = name.partition(' as ')
-            offered[local or declared] = declared, ROOT / 'crates' / crate / 'specs' / f'{module}.antt'
+    known = dict(joined(brought(*use) for use in GHOST_USE.findall(read(call.file))))
     # A field is read with a dot before it, so it is not taken for a definition of its name.
     words = re.findall(r'[^\s(){}⌜⌝,:]+', ' '.join(re.findall(r'⌜(.*?)⌝', call.contract)))
-    return [offered[word] for word in dict.fromkeys(words) if word in offered]
+    return [known[word] for word in dict.fromkeys(words) if word in known]
 
 
 def offered_laws(crate):
     """The names that proofs/Laws.antt passes on, then those that it declares."""
     text = read(crate / 'proofs' / 'Laws.antt')
     passed = [name for names in PASSED_ON.findall(text) for name in names.split(', ')]
-    own = re.findall(r'^ *(?:abbrev )?pub ([^\s:({]+) :', text, re.M)
-    return passed + own
+    return passed + re.findall(r'^ *(?:abbrev )?pub ([^\s:({]+) :', text, re.M)
 
 
-def cited_laws(crate):
-    """Those that some other crate's proofs name."""
-    found = set()
-    for file in sorted(ROOT.glob('crates/*/proofs/**/*.antt')):
-        if crate not in file.parents:
-            for name, laws in LAWS_USE.findall(read(file)):
-                found.update(laws.split(', ') if name == crate.name else ())
-    return found
+def used_laws():
+    """The laws that another crate's proofs name, each with its crate's name."""
+    uses = [(file, *use) for file in ROOT.glob('crates/*/proofs/**/*.antt') for use in LAWS_USE.findall(read(file))]
+    return {(crate, law) for file, crate, laws in uses if crate != crate_of(file).name for law in laws.split(', ')}
 
 
-# ---- the generated parts
+# ---- CONTRACTS.md
 
 def wrapped(text):
     """Prose in lines. A link has no blank in it, so none is broken."""
     return textwrap.wrap(text, WIDTH, break_long_words=False, break_on_hyphens=False)
 
 
-def contract_part(name, calls):
-    call = calls[name]
+def anchor(heading):
+    """What a heading is linked as: small letters, no punctuation, a hyphen for a blank."""
+    return re.sub(r'[^\w -]', '', heading.lower()).replace(' ', '-')
+
+
+def index_row(call):
+    parameters = re.search(r'\((.*?)\)', call.contract, re.S).group(1)
+    names = ', '.join(re.findall(r'\bself\b|\w+(?=:)', parameters))
+    return f'| [`{call.name}({names})`](#{anchor(call.name)}) | {call.comment} |'
+
+
+def entry(call, edits):
     by = ', '.join(link(*definition) for definition in cited(call)) or 'no definition of this repository'
-    return ['```', call.contract, '```', *wrapped(f'By {by}; in {link(name.split("::")[-1], call.file)}.')]
+    where = wrapped(f'By {by}; in {link(call.name.split("::")[-1], call.file)}.')
+    refused = [f'- `{edit.label}`: {edit.comment}' for edit in edits if call.name in edit.shows]
+    said = [*wrapped(call.comment), ''] if call.comment else []
+    return [f'### `{call.name}`', '', *said, '```', call.contract, '```', *where, '',
+            'Refused by the prover:', '', *refused, '']
 
 
-def definition_of(argument):
+def in_code(names):
+    return ', '.join(f'`{name}`' for name in names) or 'none'
+
+
+def laws_of(crate, used):
+    laws = offered_laws(crate)
+    above = [law for law in laws if (crate.name, law) in used]
+    spare = in_code(law for law in laws if law not in above)
+    where = f'[{crate.name}](../{shown(crate / "proofs" / "Laws.antt")}), cited by crates above:'
+    return [where, *wrapped(f'{in_code(above)}.'), *wrapped(f'Stated beside them: {spare}.'), ''] if laws else []
+
+
+def edits_of(crate, edits):
+    own = [f'- {link(edit.file.stem, edit.file)}: {edit.comment}' for edit in edits if crate_of(edit.file) == crate]
+    return [f'`{crate.name}`, {len(own)}:', '', *own, ''] if own else []
+
+
+def contracts_page(calls, edits):
+    used, edits, crates = used_laws(), list(edits.values()), library_crates()
+    return '\n'.join([
+        INTRO, '## The calls', '', '| call | what it answers |', '|---|---|', *map(index_row, calls.values()), '',
+        '## The contracts', '', *joined(entry(call, edits) for call in calls.values()),
+        '## The laws', '', 'What a crate offers to those above it beside its contracts.', '',
+        *joined(laws_of(crate, used) for crate in crates),
+        '## All must-fail edits', '', f'{len(edits)} in all, by crate.', '',
+        *joined(edits_of(crate, edits) for crate in crates)])
+
+
+# ---- the definitions in PROOFS.md
+
+def definition(file, name):
     """The lines that declare a name, up to the blank line after them; none where it is not declared."""
-    file, name = argument.split(' ')
-    path = ROOT / 'crates' / file
-    lines = read(path).split('\n') if path.is_file() else []
-    for at, line in enumerate(lines):
-        declared = DECLARES.match(line)
-        if declared and name in (declared.group('type'), declared.group('name')):
-            return path, name, lines[at:lines.index('', at)]
-    return path, name, []
+    lines = [*read(ROOT / 'crates' / file).split('\n'), '']
+    starts = [at for at, line in enumerate(lines) if name in declared_on(line)]
+    return lines[starts[0]:lines.index('', starts[0])] if starts else []
 
 
-def definition_part(argument):
-    path, name, lines = definition_of(argument)
-    return [f'{link(name, path)}:', '', '```', *lines, '```']
+def declared_on(line):
+    declared = DECLARES.match(line)
+    return (declared.group('type'), declared.group('name')) if declared else ()
 
 
-def edit_line(edit, text):
-    return f'- {text}: {edit.comment}'
+def quoted(block):
+    file, name, old = block.groups()
+    lines = definition(file, name)
+    body = '\n'.join([f'{link(name, ROOT / "crates" / file)}:', '', '```', *lines, '```', '']) if lines else old
+    return f'<!-- definition {file} {name} -->\n{body}<!-- end -->'
 
 
-def edits_part(labels, edits):
-    return [edit_line(edits[label], f'`{label}`') for label in labels.split()]
-
-
-def all_edits_part(edits):
-    lines = []
-    for crate in dict.fromkeys(label.split('/')[0] for label in edits):
-        own = [edit for edit in edits.values() if edit.label.startswith(crate + '/')]
-        lines += ['', f'`{crate}`, {len(own)}:', '']
-        lines += [edit_line(edit, link(edit.file.stem, edit.file)) for edit in own]
-    return lines[1:]
-
-
-def laws_part():
-    lines = []
-    for crate in library_crates():
-        laws = crate / 'proofs' / 'Laws.antt'
-        if laws.exists():
-            used = cited_laws(crate)
-            above = ', '.join(f'`{name}`' for name in offered_laws(crate) if name in used)
-            spare = ', '.join(f'`{name}`' for name in offered_laws(crate) if name not in used)
-            lines += ['', f'[{crate.name}](../{shown(laws)}), cited by crates above:', *wrapped(f'{above or "none"}.')]
-            lines += wrapped(f'Stated beside them: {spare or "none"}.')
-    return lines[1:]
-
-
-def part(what, argument, calls, edits):
-    if what == 'contract':
-        return contract_part(argument, calls)
-    if what == 'definition':
-        return definition_part(argument)
-    if what == 'edits':
-        return edits_part(argument, edits)
-    return laws_part() if what == 'laws' else all_edits_part(edits)
-
-
-def unknown(what, argument, calls, edits):
-    """What a marker names that the source has not."""
-    if what == 'contract':
-        return [] if argument in calls else [argument]
-    if what == 'definition':
-        return [] if definition_of(argument)[2] else [argument]
-    return [label for label in argument.split() if label not in edits] if what == 'edits' else []
-
-
-def rewritten(text, calls, edits, wrong, stale):
-    """The page with every generated part written anew. A part that cannot be is left as it was."""
-    lines, out = text.split('\n'), []
-    while lines:
-        line = lines.pop(0)
-        out.append(line)
-        marker = MARKER.match(line)
-        if not marker:
-            continue
-        length = lines.index(END) if END in lines else len(lines)
-        old, lines = lines[:length], lines[length:]
-        # Without its own end a part would take what was written by hand with it.
-        if not lines or any(map(MARKER.match, old)):
-            wrong.append(f'{shown(PAGE)}: {line}: no {END} after it')
-            return text
-        what, argument = marker.group(1), marker.group(2) or ''
-        missing = unknown(what, argument, calls, edits)
-        wrong += [f'{shown(PAGE)}: {line}: the source has no {name}' for name in missing]
-        new = old if missing else '\n'.join(part(what, argument, calls, edits)).split('\n')
-        if new != old:
-            stale.append(f'{shown(PAGE)}: {line}: not as in the source; run python3 docs/proofs.py')
-        out += new
-    return '\n'.join(out)
+def proofs_page():
+    return BLOCK.sub(quoted, read(PROOFS))
 
 
 # ---- the checks
+
+def check_blocks():
+    text = read(PROOFS)
+    blocks = BLOCK.findall(text)
+    if not text.count('<!-- definition ') == text.count('<!-- end -->') == len(blocks):
+        yield f'{shown(PROOFS)}: a definition without its end'
+    yield from (f'{shown(PROOFS)}: {file} declares no {name}' for file, name, _ in blocks if not definition(file, name))
+
+
+def check_lengths():
+    for page, longest in LONGEST.items():
+        lines = read(page).count('\n')
+        if lines > longest:
+            yield f'{shown(page)}: {lines} lines, more than {longest}'
+
 
 def check_contracts():
     for call in public_functions():
@@ -288,47 +322,50 @@ def check_contracts():
             yield f'{where} has a `requires`'
 
 
-def entries(text):
-    """The page's entries: a call's name, and all up to the next heading."""
-    pieces = re.split(r'^<!-- contract (.*?) -->$', text, flags=re.M)
-    for name, rest in zip(pieces[1::2], pieces[2::2]):
-        yield name, re.split(r'^#', rest, maxsplit=1, flags=re.M)[0]
+def check_edits(calls, edits):
+    for edit in edits.values():
+        if not edit.comment:
+            yield f'{shown(edit.file)}: its first line is no comment'
+        yield from (f'{shown(edit.file)}: {name} is no public call' for name in edit.shows if name not in calls)
 
 
-def check_entries(text, calls):
-    seen = [name for name, _ in entries(text)]
-    yield from (f'{shown(PAGE)}: no entry for {name}' for name in calls if name not in seen)
-    yield from (f'{shown(PAGE)}: {name} has two entries' for name in calls if seen.count(name) > 1)
-    for name, body in entries(text):
-        by_hand = re.sub(r'^<!-- edits.*?^<!-- end -->$', '', body, flags=re.M | re.S)
-        if len(re.findall(r'^- ', by_hand, re.M)) < 2:
-            yield f'{shown(PAGE)}: {name}: fewer than two wrong answers'
-        if len(re.findall(r'\S+/\S+', ' '.join(re.findall(r'^<!-- edits (.*?) -->$', body, re.M)))) < 2:
-            yield f'{shown(PAGE)}: {name}: fewer than two must-fail edits'
+def check_shown(calls, edits):
+    showing = joined(edit.shows for edit in edits.values())
+    for name in calls:
+        if showing.count(name) < 2:
+            yield f'{name}: must-fail edits that show it: {showing.count(name)}, fewer than 2'
+
+
+def mirrored(file):
+    """The file of definitions that is named like a module; that of a crate's lib.rt like the crate."""
+    name = crate_of(file).name if file.stem == 'lib' else file.stem
+    return crate_of(file) / 'specs' / f'{name.capitalize()}.antt'
+
+
+def cites_own(file):
+    definitions = joined(map(cited, functions_of(file)))
+    return any(crate_of(spec) == crate_of(file) for _, spec in definitions)
+
+
+def check_mirror():
+    for file in modules():
+        if cites_own(file) and not mirrored(file).is_file():
+            yield f'{shown(file)}: its contracts cite definitions of its crate, and there is no {shown(mirrored(file))}'
 
 
 def block_of(lines, name):
     """The indented lines below the declaration of a type."""
-    for at, line in enumerate(lines):
-        declared = DECLARES.match(line)
-        if declared and declared.group('type') == name:
-            inside = at + 1
-            while inside < len(lines) and (not lines[inside].strip() or lines[inside].startswith('  ')):
-                inside += 1
-            return lines[at + 1:inside]
-    return []
+    starts = [at for at, line in enumerate(lines) if name in declared_on(line)]
+    below = lines[starts[0] + 1:] if starts else []
+    return list(takewhile(lambda line: not line.strip() or line.startswith('  '), below))
 
 
 def declares_antt(text, name):
     """A definition, a law or a type; `Type.field`; or a name that the file passes on."""
-    lines = text.split('\n')
-    if '.' in name:
-        owner, name = name.split('.', 1)
-        lines = block_of(lines, owner)
-    if any(name in names.split(', ') for names in PASSED_ON.findall(text)):
-        return True
-    found = filter(None, map(DECLARES.match, lines))
-    return any(name in (declared.group('type'), declared.group('name')) for declared in found)
+    owner, _, field = name.rpartition('.')
+    lines = block_of(text.split('\n'), owner) if owner else text.split('\n')
+    passed = [each for names in PASSED_ON.findall(text) for each in names.split(', ')]
+    return name in passed or any(field in declared_on(line) for line in lines)
 
 
 def declares(file, name):
@@ -340,54 +377,59 @@ def declares(file, name):
     return file.suffix != '.edit' or name == file.stem
 
 
-def check_names(page, counted):
-    for name, target in NAMED_LINK.findall(read(page)):
-        file = page.parent / target
-        if file.is_file():
-            counted.add((name, file.resolve()))
-            if not declares(file, name):
-                yield f'{shown(page)}: {target} declares no {name}'
+def names_on(page):
+    links = [(name, page.parent / target) for name, target in NAMED_LINK.findall(read(page))]
+    return {(name, file.resolve()) for name, file in links if file.is_file()}
 
 
-def anchors(page):
-    """What a page's headings are linked as: small letters, no punctuation, a hyphen for a blank."""
-    headings = re.findall(r'^#+ (.*)$', read(page), re.M)
-    return {re.sub(r'[^\w -]', '', heading.lower()).replace(' ', '-') for heading in headings}
+def check_names(page):
+    wrong = sorted((name, file) for name, file in names_on(page) if not declares(file, name))
+    return [f'{shown(page)}: {shown(file)} declares no {name}' for name, file in wrong]
+
+
+def leads_somewhere(page, target):
+    path, _, heading = target.partition('#')
+    file = page.parent / path if path else page
+    headings = re.findall(r'^#+ (.*)$', read(file), re.M) if heading and file.suffix == '.md' else []
+    return '://' in target or file.exists() and (not heading or heading in map(anchor, headings))
 
 
 def check_links(page):
-    for target in LINK.findall(read(page)):
-        path, _, anchor = target.partition('#')
-        found = '://' in path or (page.parent / path).exists() if path else anchor in anchors(page)
-        if not found:
-            yield f'{shown(page)}: the link to {target} leads nowhere'
+    lost = [target for target in LINK.findall(read(page)) if not leads_somewhere(page, target)]
+    return [f'{shown(page)}: the link to {target} leads nowhere' for target in dict.fromkeys(lost)]
 
 
-def check_edit_names(text, edits):
-    named = sorted(set(EDIT_NAME.findall(text)))
-    yield from (f'{shown(PAGE)}: there is no edit {label}' for label in named if label not in edits)
-    yield from (f'{shown(edit.file)}: its first line is no comment' for edit in edits.values() if not edit.comment)
+def check_edit_names(edits):
+    named = sorted(set(EDIT_NAME.findall(read(PROOFS))))
+    return [f'{shown(PROOFS)}: there is no edit {label}' for label in named if label not in edits]
+
+
+def check_pages(pages):
+    """That what is made is what it would be now."""
+    stale = [page for page, text in pages.items() if read(page) != text]
+    return [f'{shown(page)}: not as in the source; run python3 docs/proofs.py' for page in stale]
+
+
+def write_pages(pages):
+    for page, text in pages.items():
+        page.write_text(text, encoding='utf-8')
 
 
 def main():
-    calls, edits, problems, stale, names = public_calls(), all_edits(), [], [], set()
-    text = rewritten(read(PAGE), calls, edits, problems, stale)
-    if '--check' in sys.argv[1:]:
-        problems += stale
-    else:
-        PAGE.write_text(text, encoding='utf-8')
-    problems += check_contracts()
-    problems += check_entries(text, calls)
-    problems += check_edit_names(text, edits)
-    for page in (ROOT / 'README.md', *sorted((ROOT / 'docs').glob('*.md'))):
-        problems += check_names(page, names)
-        problems += check_links(page)
-    for problem in problems:
-        print(problem)
-    if problems:
-        return 1
-    print(f'docs: {len(calls)} contracts, {len(names)} names, {len(edits)} edits: all as in the source')
-    return 0
+    calls, edits = public_calls(), all_edits()
+    made = {CONTRACTS: contracts_page(calls, edits), PROOFS: proofs_page()}
+    if '--check' not in sys.argv[1:]:
+        write_pages(made)
+    written = [README, *sorted((ROOT / 'docs').glob('*.md'))]
+    problems = [
+        *check_pages(made), *check_blocks(), *check_lengths(), *check_contracts(), *check_edits(calls, edits),
+        *check_shown(calls, edits), *check_mirror(), *check_edit_names(edits), *joined(map(check_names, written)),
+        *joined(map(check_links, written))]
+    names = set().union(*map(names_on, written))
+    print(*problems, sep='\n', end='\n' if problems else '')
+    if not problems:
+        print(f'docs: {len(calls)} contracts, {len(names)} names, {len(edits)} edits: all as in the source')
+    return 1 if problems else 0
 
 
 if __name__ == '__main__':
