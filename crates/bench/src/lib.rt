@@ -1,4 +1,4 @@
-// The bench: a run on the bytes of a chip, whose power is cut after so many orders. Bench is document
+// The bench: a run on the bytes of a chip, whose power is cut after a number of orders. Bench is document
 // 01's term.
 ghost use Prim.Native.Nat.{_<_};
 ghost use mathlib.Core.Path.{_≡_};
@@ -46,7 +46,7 @@ fn mixes_with_erased(others: &[u8], new: &[u8]) -> bool
     true
 }
 
-// Question 10 for an erase or program of so many bytes. In segment 0 either what is ordered (the erase)
+// Question 10 for an erase or program of `count` bytes. In segment 0 either what is ordered (the erase)
 // or what stands there before (the program of ON) is FF; the others are the bytes that need not be.
 fn span_allowed(place: usize, count: usize, others: &[u8], damage: &[u8]) -> bool
     requires { ⌜ (place < segment → length (now others) ≡ count) ⌝ }
@@ -128,21 +128,21 @@ fn cut_begun(chip: &mut [u8], begun: State, image: &[u8], cut: usize, damage: &[
     BenchAnswer::Reached { state: reached }
 }
 
-// Runs an update on a chip and cuts the power in the order after so many: those are obeyed in full, and
+// Runs an update on a chip and cuts the power in the order after the first `cut`: those are obeyed in full, and
 // the first damage bytes stand in the span of the next. A cut at or above the total lets the run end. Refusals 1 to 6
 // and 13 leave the chip as it was.
 pub fn cut_run(
     chip: &mut [u8],
-    update: usize,
-    area: usize,
+    update_place: usize,
+    update_length: usize,
     image: &[u8],
     cut: usize,
     damage: &[u8],
 ) -> BenchAnswer
-    ensures answer { λ r. ⌜ r ≡ benchAnswer spi (benchLayout (now (chip .entry)) update area) (now (chip .entry)) (now (image .entry)) cut (now (damage .entry)) ⌝ }
-    ensures output { λ r. ⌜ now (chip .exit) ≡ benchOutput (benchAnswer spi (benchLayout (now (chip .entry)) update area) (now (chip .entry)) (now (image .entry)) cut (now (damage .entry))) spi (benchLayout (now (chip .entry)) update area) (now (chip .entry)) (now (image .entry)) cut (now (damage .entry)) ⌝ }
+    ensures answer { λ r. ⌜ r ≡ benchAnswer spi (benchLayout (now (chip .entry)) «update_place» «update_length») (now (chip .entry)) (now (image .entry)) cut (now (damage .entry)) ⌝ }
+    ensures output { λ r. ⌜ now (chip .exit) ≡ benchOutput (benchAnswer spi (benchLayout (now (chip .entry)) «update_place» «update_length») (now (chip .entry)) (now (image .entry)) cut (now (damage .entry))) spi (benchLayout (now (chip .entry)) «update_place» «update_length») (now (chip .entry)) (now (image .entry)) cut (now (damage .entry)) ⌝ }
 {
-    let layout = Spi::layout(chip.len(), update, area);
+    let layout = Spi::layout(chip.len(), update_place, update_length);
     let started = start(layout, image);
     match started {
         StartAnswer::Started { state } => cut_begun(chip, state, image, cut, damage),

@@ -4,7 +4,7 @@ ghost use Prim.Native.Nat.{_+_, _≤_};
 ghost use lib.ListN.{length};
 ghost use Rattle.kind.specs.Spi.{spi};
 ghost use Rattle.base.specs.Output.{frontFilled};
-ghost use Rattle.kind.specs.Layout.{layoutAnswer};
+ghost use Rattle.kind.specs.Layout.{layoutAnswer, goldenAt};
 ghost use Rattle.builder.specs.Builder.{builtChip, goldenAnswer, buildAnswer, outputOf, buildOutput, LoadsGolden};
 ghost use Rattle.builder.specs.Types.{LayoutAllowed};
 use base::refusal;
@@ -24,7 +24,7 @@ pub enum BuildAnswer {
 
 // Writes the chip into a buffer that it fits into.
 fn write_chip(layout: Layout, golden: &[u8], out: &mut [u8])
-    requires { ⌜ (8192 + length (now golden) ≤ layout .«chip_length») × (layout .«chip_length» ≤ length (now out)) ⌝ }
+    requires { ⌜ (goldenAt + length (now golden) ≤ layout .«chip_length») × (layout .«chip_length» ≤ length (now out)) ⌝ }
     ensures { λ r. ⌜ now (out .exit) ≡ frontFilled (builtChip spi layout (now (golden .entry))) (now (out .entry)) ⌝ }
 {
     let words = Spi::warm_boot_words(layout.update_place);

@@ -1,8 +1,8 @@
 -- The chips that are well-formed, what they load, and the laws of a chip kind. Document 01, "The chip" and "How the configuration reader reads".
-use Prim.Native.Nat.{ℕ, _+_, _-_, _/_, _%_, _^_, _<_, _≤_}
+use Prim.Native.Nat.{ℕ, _+_, _-_, _<_, _≤_}
 use mathlib.Core.Path.{_≡_}
 use mathlib.Core.Bool.{Bool, true, false}
-use mathlib.Core.List.{List, [], _∷_, _++_}
+use mathlib.Core.List.{List}
 use lib.ListN.{length, getD}
 use Rattle.packets.specs.Trace.{contents}
 use Rattle.kind.specs.Layout.{chipLengthAllowed, segment, switchAt, goldenAt, updatePlaceAllowed}

@@ -7,7 +7,7 @@ use lib.Dec.{eqb}
 use lib.ListN.{length}
 use Rattle.flash.specs.Flash.{erased}
 
--- bytes, then FF up to so many
+-- bytes, then FF up to `count`
 abbrev pub padded : ℕ → List ℕ → List ℕ
 padded count bytes = bytes ++ erased (count - length bytes)
 

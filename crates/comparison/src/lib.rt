@@ -4,7 +4,7 @@ ghost use Prim.Native.Nat.{_≤_};
 ghost use mathlib.Core.Path.{_≡_};
 ghost use mathlib.Core.Bool.{true};
 ghost use lib.ListN.{length};
-ghost use Rattle.kind.specs.Layout.{page};
+ghost use Rattle.kind.specs.Layout.{page, longestChip};
 ghost use Rattle.flash.specs.Flash.{erased};
 ghost use Rattle.comparison.specs.Comparison.{padded, differs};
 ghost use Rattle.comparison.specs.Internal.{comparison};
@@ -17,7 +17,7 @@ pub enum Comparison {
 
 // Bytes, then FF to the end of a page.
 pub fn padded_page(bytes: &[u8]) -> [u8; 256]
-    requires { ⌜ length (now bytes) ≤ 256 ⌝ }
+    requires { ⌜ length (now bytes) ≤ page ⌝ }
     ensures { λ r. ⌜ r ≡ padded page (now (bytes .entry)) ⌝ }
 {
     let mut filling = [0xFF; 256];
@@ -75,7 +75,7 @@ fn agree(bytes: &[u8], expected: &[u8]) -> bool
 
 // The first address, from a place on, at which bytes are not those expected there.
 fn first_difference(place: usize, bytes: &[u8], expected: &[u8]) -> Comparison
-    requires { ⌜ (place ≤ 16777216) × (length (now expected) ≤ length (now bytes)) × (length (now bytes) ≤ 256) ⌝ }
+    requires { ⌜ (place ≤ longestChip) × (length (now expected) ≤ length (now bytes)) × (length (now bytes) ≤ page) ⌝ }
     ensures { λ r. ⌜ r ≡ comparison (differs place (now (bytes .entry)) (padded (length (now (bytes .entry))) (now (expected .entry)))) ⌝ }
 {
     let mut i = 0;
@@ -95,7 +95,7 @@ fn first_difference(place: usize, bytes: &[u8], expected: &[u8]) -> Comparison
 // Compares bytes from a place on with those expected there: `expected`, then FF. Nearly every look
 // agrees, so the slower search for an address waits until one does not.
 pub fn compare(place: usize, bytes: &[u8], expected: &[u8]) -> Comparison
-    requires { ⌜ (place ≤ 16777216) × (length (now expected) ≤ length (now bytes)) × (length (now bytes) ≤ 256) ⌝ }
+    requires { ⌜ (place ≤ longestChip) × (length (now expected) ≤ length (now bytes)) × (length (now bytes) ≤ page) ⌝ }
     ensures { λ r. ⌜ r ≡ comparison (differs place (now (bytes .entry)) (padded (length (now (bytes .entry))) (now (expected .entry)))) ⌝ }
 {
     if agree(bytes, expected) {

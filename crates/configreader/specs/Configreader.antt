@@ -29,7 +29,7 @@ jump zero bytes place to = OutcomeIprog place
 jump (suc left) bytes place to =
     elim (ltb to (length bytes)) [ true ↦ searchFrom (jump left bytes) true bytes to | false ↦ Stuck place ]
 
--- a reading from a place, unsynchronised, with so many jumps left
+-- a reading from a place, unsynchronised, with `left` jumps left
 abbrev pub readFrom : ℕ → Bool → List ℕ → ℕ → Outcome
 readFrom left jumped bytes from = searchFrom (jump left bytes) jumped bytes from
 

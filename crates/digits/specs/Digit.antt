@@ -13,7 +13,7 @@ digits =
 
 -- Numbers to characters.
 
--- so many digits of a number, the highest first
+-- `count` digits of a number, the highest first
 unfoldable pub hexadecimal : ℕ → ℕ → List ℕ
 hexadecimal zero n = []
 hexadecimal (suc count) n = hexadecimal count (n / 16) ++ getD digits (n % 16) 0 ∷ []

@@ -1,7 +1,7 @@
 -- The table that a digit's value is looked up in. Only contracts of functions that are no public calls cite it.
-use Prim.Native.Nat.{ℕ, zero, suc, _+_, _*_, _<_}
+use Prim.Native.Nat.{ℕ, _<_}
 use mathlib.Core.Path.{_≡_}
-use mathlib.Core.List.{List, [], _∷_}
+use mathlib.Core.List.{List}
 use lib.ListN.{length, getD}
 use Rattle.digits.specs.Digit.{digitOf}
 

@@ -36,7 +36,7 @@ pub fn sum_pairs(values: &[u8], text: &[u8], at: usize, count: usize) -> Sum
     Sum::Of(sum)
 }
 
-// The bytes that so many pairs from `from` on make, at `to`.
+// Decodes pairs from `from` into as many bytes at `to`.
 pub fn decode(values: &[u8], text: &[u8], from: usize, out: &mut [u8], to: usize, bytes: usize)
     requires { ⌜ (from + 2 * bytes ≤ length (now text)) × (to + bytes ≤ length (now out)) × ArePairs (now text) from bytes × DigitTable (now values) ⌝ }
     ensures { λ r. ⌜ now (out .exit) ≡ paste (now (out .entry)) to (pairsAt (now (text .entry)) from bytes) bytes ⌝ }

@@ -1,4 +1,4 @@
--- A run on a chip that obeys: the chip, and the run's state, after so many orders. Document 01, "Orders of one run".
+-- A run on a chip that obeys: the chip, and the run's state, after a number of orders. Document 01, "Orders of one run".
 use Prim.Native.Nat.{ℕ, zero, suc, min}
 use mathlib.Core.List.{List}
 use lib.ListN.{length, take}
@@ -13,7 +13,7 @@ use Rattle.effects.specs.Effects.{obeyedAll}
 abbrev pub chipAfter : Kind → Layout → List ℕ → ℕ → List ℕ → List ℕ
 chipAfter kind layout image k chip = obeyedAll (take k (orders kind layout image)) chip
 
--- the state after so many orders
+-- the state after a number of orders
 unfoldable pub stateAfter : ℕ → State → State
 stateAfter zero state = state
 stateAfter (suc more) state = stateAfter more (after state)

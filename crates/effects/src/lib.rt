@@ -1,4 +1,4 @@
-// A run on the bytes of a chip that obeys: the run's state and the chip after so many orders. For the bench
+// A run on the bytes of a chip that obeys: the run's state and the chip after a number of orders. For the bench
 // alone: its functions ask their caller for a run's first state.
 ghost use Prim.Native.Nat.{min};
 ghost use mathlib.Core.Path.{_≡_};
@@ -17,7 +17,7 @@ use updater::state::after_order;
 use updater::state::current_bytes;
 use updater::state::current_operation;
 
-// The state after so many orders, or at the run's end.
+// The state after `cut` orders, or at the run's end.
 pub fn state_after(begun: State, cut: usize) -> State
     requires { ⌜ (begun ≡ first (begun .layout) (begun .«image_length»)) × (fits begun (begun .«image_length») ≡ true) ⌝ }
     ensures { λ r. ⌜ r ≡ stateAfter (min cut (total (begun .layout) (begun .«image_length»))) begun ⌝ }
@@ -55,7 +55,7 @@ fn obey_order(chip: &mut [u8], state: State, image: &[u8])
     }
 }
 
-// The chip obeys so many orders, or all of the run.
+// The chip obeys the first `cut` orders, or all of the run.
 pub fn obey_orders(chip: &mut [u8], begun: State, image: &[u8], cut: usize)
     requires { ⌜ (begun ≡ first (begun .layout) (length (now image))) × (fits begun (length (now image)) ≡ true) × (begun .layout .«chip_length» ≡ length (now chip)) ⌝ }
     ensures { λ r. ⌜ now (chip .exit) ≡ chipAfter spi (begun .layout) (now (image .entry)) cut (now (chip .entry)) ⌝ }

@@ -5,7 +5,6 @@ use Prim.Native.String.{String, [] as noText, _∷_ as _then_}
 use mathlib.Core.Bool.{true, false}
 use mathlib.Core.List.{List, [], _∷_, _++_}
 use lib.Dec.{ltb}
-use lib.ListN.{getD}
 
 -- the bytes of a text
 unfoldable pub ascii : String → List ℕ

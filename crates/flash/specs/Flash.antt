@@ -8,11 +8,11 @@ use lib.Dec.{leb}
 use lib.ListN.{length, getD, take, drop, replicate}
 use Rattle.base.specs.Question.{ask}
 
--- so many bytes FF: an erase sets its span to them
+-- `count` bytes FF: an erase sets its span to them
 abbrev pub erased : ℕ → List ℕ
 erased count = replicate count 0xFF
 
--- so many of a chip's bytes, from a place on
+-- `count` of a chip's bytes, from a place
 abbrev pub span : List ℕ → ℕ → ℕ → List ℕ
 span chip place count = take count (drop place chip)
 
@@ -20,7 +20,7 @@ span chip place count = take count (drop place chip)
 abbrev pub overwrite : List ℕ → ℕ → List ℕ → List ℕ
 overwrite chip place bytes = take place chip ++ (bytes ++ drop (place + length bytes) chip)
 
--- The same where a span of so many bytes lies within the chip; else the chip as it was.
+-- The same where a span of `count` bytes lies within the chip; else the chip as it was.
 unfoldable pub overwriteInRange : List ℕ → ℕ → ℕ → List ℕ → List ℕ
 overwriteInRange chip place count bytes = ask (leb (place + count) (length chip)) chip (overwrite chip place bytes)
 

@@ -1,7 +1,7 @@
 -- The word at a place. Only contracts of functions that are no public calls cite it.
 use Rattle.framing.specs.Words.{words}
-use Prim.Native.Nat.{ℕ, _+_, _*_}
-use mathlib.Core.List.{List, [], _∷_}
+use Prim.Native.Nat.{ℕ}
+use mathlib.Core.List.{List}
 use lib.ListN.{getD, drop}
 
 -- the word at a place

@@ -1,7 +1,6 @@
 -- Bytes to words. Document 01, "How the configuration reader reads".
 use Prim.Native.Nat.{ℕ, _+_, _*_}
 use mathlib.Core.List.{List, [], _∷_}
-use lib.ListN.{getD, drop}
 
 -- Then come 32-bit words, high byte first; bytes that make no whole word at the end are left out.
 unfoldable pub words : List ℕ → List ℕ

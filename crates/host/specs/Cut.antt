@@ -1,8 +1,6 @@
 -- The functions that a C host calls, each as one definition for what it returns and, where it writes, one for the lent bytes. Here: a run that is cut.
 use Prim.Native.Nat.{ℕ}
 use mathlib.Core.List.{List}
-use lib.Dec.{eqb}
-use lib.ListN.{length}
 use Rattle.host.specs.Kinds.{askKind}
 use Rattle.base.specs.Refusal.{badChipLength}
 use Rattle.kind.specs.Spi.{spi}

@@ -1,4 +1,4 @@
-// A run on the bytes of a chip, cut after so many orders.
+// A run on the bytes of a chip, cut after the first `k` orders.
 ghost use mathlib.Core.Path.{_≡_};
 ghost use Rattle.host.specs.Cut.{benchCall, benchCallOutput};
 use base::refusal;

@@ -45,7 +45,7 @@ pub extern "C" fn tealsettle_start(
     start_result(answer)
 }
 
-// How many orders a run has with an image of so many bytes.
+// How many orders a run has with an image of `n` bytes.
 #[no_mangle]
 pub extern "C" fn tealsettle_total(
     kind: u32,

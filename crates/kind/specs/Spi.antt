@@ -19,3 +19,7 @@ spiWarmBoot updatePlace = bytesOf 0x30020001 ++ bytesOf updatePlace ++ bytesOf 0
 
 abbrev pub spi : Kind
 spi = record { on = spiOn; isOn = beginsWith spiOn; warmBoot = spiWarmBoot; reads = readChip; alone = readAlone; lists = listed }
+
+-- the kind's number at the C interface
+abbrev pub spiNumber : ℕ
+spiNumber = 0

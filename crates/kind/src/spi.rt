@@ -2,7 +2,7 @@
 ghost use mathlib.Core.Path.{_≡_};
 ghost use lib.Dec.{eqb};
 ghost use Rattle.kind.specs.Layout.{layoutOf};
-ghost use Rattle.kind.specs.Spi.{spiWarmBoot};
+ghost use Rattle.kind.specs.Spi.{spiWarmBoot, spiNumber};
 use crate::layout::Layout;
 
 pub struct Spi;
@@ -29,7 +29,7 @@ impl Spi {
 
     // Is this the kind's number?
     pub fn has_number(number: u32) -> bool
-        ensures { λ r. ⌜ r ≡ eqb number 0 ⌝ }
+        ensures { λ r. ⌜ r ≡ eqb number spiNumber ⌝ }
     {
         number == Spi::NUMBER
     }

@@ -24,7 +24,7 @@ fn read(text: &[u8], out: &mut [u8]) {
     say::number(answer.length);
 }
 
-// A run cut after so many orders: U, A and their number.
+// A run that is cut: U, A and the number of orders before the cut.
 fn cut(n: Numbers, image: &[u8], damage: &[u8], chip: &mut [u8]) {
     let answer = tealsettle_cut_run(SPI, chip, n.f, n.g, image, n.h, damage);
     say::result(words::REACHED, words::REFUSED, answer.number, answer.place);

@@ -24,7 +24,7 @@ const LOADED: usize = 14;
 // The length of the last line, but for the number of writes.
 const END: usize = 21;
 
-// Whether a buffer of so many bytes has room for all of it. The number of writes is held to what is left
+// Whether a buffer of `room` bytes has room for all of it. The number of writes is held to what is left
 // beside the first and the last line, so that no product can wrap.
 pub fn has_room(writes: usize, room: usize) -> bool
     ensures { λ r. ⌜ r ≡ leb (14 + 27 * writes + (21 + length (decimal writes))) room ⌝ }

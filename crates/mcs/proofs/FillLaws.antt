@@ -4,12 +4,11 @@ use mathlib.Core.Path.{_≡_, refl, sym, ap, ap₂, _∙_}
 use mathlib.Core.Bool.{Bool, true, false}
 use mathlib.Core.List.{List, [], _∷_, _++_}
 use native.Mathlib.Omega.{arith}
-use borrow.Author.Tests.{ltb-true, ltb-false, le-leb}
+use borrow.Author.Tests.{ltb-true, ltb-false}
 use lib.Dec.{ltb}
 use lib.ListN.{length, drop, length-append, length-drop}
 use lib.Seq.{paste, take-at, take-length, drop-append-add, drop-drop}
-use Rattle.base.specs.Question.{ask}
-use Rattle.base.specs.Output.{frontFilled}
+use Rattle.base.proofs.Laws.{front-fits}
 use Rattle.digits.specs.Pairs.{ArePairs, pairsAt}
 use Rattle.mcsline.specs.Record.{Data, ExtendedLinearAddress, End}
 use Rattle.mcsline.specs.Line.{Parsed, Is, Refuses, parsed}
@@ -30,8 +29,8 @@ fits-holds (Holds image) room h = (image, (refl, h))
 fits-holds (Refused number place) room h = absurd h
 
 pub holds-filled : (whole before : List ℕ) → length whole ≤ length before → heldOutput (Holds whole) before ≡ whole ++ drop (length whole) before
-unfolding heldOutput frontFilled ask
-holds-filled whole before h = rw (le-leb (length whole) (length before) h) refl
+unfolding heldOutput
+holds-filled whole before h = front-fits whole before h
 
 -- a reading only adds to the image
 abbrev Grows : List (List ℕ) → ℕ → List ℕ → Type 0

@@ -1,8 +1,8 @@
 -- The public call as one definition for its answer and one for the lent buffer. Document 01, question 13.
 use Prim.Native.Nat.{ℕ}
-use mathlib.Core.List.{List, _++_}
+use mathlib.Core.List.{List}
 use lib.Dec.{leb}
-use lib.ListN.{length, drop}
+use lib.ListN.{length}
 use Rattle.base.specs.Output.{frontFilled}
 use Rattle.base.specs.Refusal.{noRoom}
 use Rattle.base.specs.Question.{ask}

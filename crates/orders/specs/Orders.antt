@@ -9,7 +9,7 @@ use Rattle.orders.specs.Types.{Layout, Operation, Erase, Program, Look}
 use Rattle.comparison.specs.Comparison.{padded}
 use Rattle.orders.specs.Table.{byPhase, count}
 
--- An order (document 01's term): an erase of so many bytes, a program of bytes, or a look, with the bytes expected there.
+-- An order (document 01's term): an erase of `count` bytes, a program of bytes, or a look, with the bytes expected there.
 pub data Order : Type 0 where
   erase : (place count : ℕ) → Order
   program : (place : ℕ) (bytes : List ℕ) → Order
@@ -40,7 +40,7 @@ orderOf kind layout image phase i =
     (look switchAt (kind .on))
     (erase 0 0)
 
--- so many orders of a phase, from index i on
+-- a number of orders of a phase, from index i
 unfoldable pub inPhase : (ℕ → Order) → ℕ → ℕ → List Order
 inPhase order i zero = []
 inPhase order i (suc more) = order i ∷ inPhase order (i + 1) more

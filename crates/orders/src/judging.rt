@@ -2,7 +2,7 @@
 ghost use Prim.Native.Nat.{_+_, _*_, _<_, _≤_};
 ghost use mathlib.Core.Path.{_≡_};
 ghost use lib.ListN.{length};
-ghost use Rattle.kind.specs.Layout.{page};
+ghost use Rattle.kind.specs.Layout.{page, longestChip};
 ghost use Rattle.kind.specs.Spi.{spi};
 ghost use Rattle.comparison.specs.Comparison.{padded, differs};
 ghost use Rattle.comparison.specs.Internal.{comparison};
@@ -64,7 +64,7 @@ fn judge_look(comparison: Comparison) -> Judgement
 
 // Compares what a look at a place read with what is expected there.
 fn compare_look(image: &[u8], phase: u32, index: usize, place: usize, bytes: &[u8]) -> Comparison
-    requires { ⌜ (page * index < 16777216) × (place ≤ 16777216) × (length (carried spi (now image) phase index) ≤ length (now bytes)) × (length (now bytes) ≤ page) ⌝ }
+    requires { ⌜ (page * index < longestChip) × (place ≤ longestChip) × (length (carried spi (now image) phase index) ≤ length (now bytes)) × (length (now bytes) ≤ page) ⌝ }
     ensures { λ r. ⌜ r ≡ comparison (differs place (now (bytes .entry)) (padded (length (now (bytes .entry))) (carried spi (now (image .entry)) phase index))) ⌝ }
 {
     let on = Spi::ON;
@@ -80,7 +80,7 @@ pub fn judge(
     reply_kind: u32,
     bytes: &[u8],
 ) -> Judgement
-    requires { ⌜ (index < count layout (length (now image)) phase) × (layout .«update_place» + page * index < 16777216) ⌝ }
+    requires { ⌜ (index < count layout (length (now image)) phase) × (layout .«update_place» + page * index < longestChip) ⌝ }
     ensures { λ r. ⌜ r ≡ judged (orderOf spi layout (now (image .entry)) phase index) «reply_kind» (now (bytes .entry)) ⌝ }
 {
     let operation = operation_at(layout, image.len(), phase, index);

@@ -5,7 +5,7 @@ ghost use mathlib.Core.Path.{_≡_};
 ghost use Prim.Native.Nat.{ℕ, _+_, _*_, _<_, _≤_};
 ghost use mathlib.Core.List.{List};
 ghost use lib.ListN.{length};
-ghost use Rattle.kind.specs.Layout.{page};
+ghost use Rattle.kind.specs.Layout.{page, longestChip};
 ghost use Rattle.kind.specs.Spi.{spi, spiOn};
 ghost use Rattle.orders.specs.Types.{Layout};
 ghost use Rattle.orders.specs.Table.{count, countBefore};
@@ -27,14 +27,14 @@ pub enum Operation {
 }
 
 // How many orders a phase has.
-pub fn orders_in(layout: Layout, length: usize, phase: u32) -> usize
-    ensures { λ r. ⌜ r ≡ count layout length phase ⌝ }
+pub fn orders_in(layout: Layout, image_length: usize, phase: u32) -> usize
+    ensures { λ r. ⌜ r ≡ count layout «image_length» phase ⌝ }
 {
     match phase {
         0 => 1,
         1 => Spi::SEGMENT / Spi::PAGE,
         2 => layout.update_length / Spi::SEGMENT,
-        3 => length / Spi::PAGE + (length % Spi::PAGE + 255) / Spi::PAGE,
+        3 => image_length / Spi::PAGE + (image_length % Spi::PAGE + 255) / Spi::PAGE,
         4 => layout.update_length / Spi::PAGE,
         5 => 1,
         6 => 1,
@@ -43,23 +43,23 @@ pub fn orders_in(layout: Layout, length: usize, phase: u32) -> usize
 }
 
 // How many orders come before a phase; before phase 7, all of a run's.
-pub fn orders_before(layout: Layout, length: usize, phase: u32) -> usize
-    requires { ⌜ (phase ≤ 7) × (layout .«update_length» ≤ 16777216) × (length ≤ 16777216) ⌝ }
-    ensures { λ r. ⌜ r ≡ countBefore layout length phase ⌝ }
+pub fn orders_before(layout: Layout, image_length: usize, phase: u32) -> usize
+    requires { ⌜ (phase ≤ 7) × (layout .«update_length» ≤ longestChip) × («image_length» ≤ longestChip) ⌝ }
+    ensures { λ r. ⌜ r ≡ countBefore layout «image_length» phase ⌝ }
 {
     let mut orders = 0;
     let mut i = 0;
     while i < phase {
-        orders += orders_in(layout, length, i);
+        orders += orders_in(layout, image_length, i);
         i += 1;
     }
     orders
 }
 
 // An order of a phase, as far as it can be said without the bytes that it programs.
-pub fn operation_at(layout: Layout, n: usize, phase: u32, index: usize) -> Operation
-    requires { ⌜ (index < count layout n phase) × (layout .«update_place» + page * index < 16777216) ⌝ }
-    ensures { λ r. ⌜ ((image : List ℕ) → length image ≡ n → r ≡ operationOf (orderOf spi layout image phase index)) ⌝ }
+pub fn operation_at(layout: Layout, image_length: usize, phase: u32, index: usize) -> Operation
+    requires { ⌜ (index < count layout «image_length» phase) × (layout .«update_place» + page * index < longestChip) ⌝ }
+    ensures { λ r. ⌜ ((image : List ℕ) → length image ≡ «image_length» → r ≡ operationOf (orderOf spi layout image phase index)) ⌝ }
 {
     let page = layout.update_place + Spi::PAGE * index;
     match phase {
@@ -77,7 +77,7 @@ pub fn operation_at(layout: Layout, n: usize, phase: u32, index: usize) -> Opera
         },
         3 => Operation::Program {
             place: page,
-            length: min(n - Spi::PAGE * index, Spi::PAGE),
+            length: min(image_length - Spi::PAGE * index, Spi::PAGE),
         },
         4 => Operation::Look {
             place: page,
@@ -96,7 +96,7 @@ pub fn operation_at(layout: Layout, n: usize, phase: u32, index: usize) -> Opera
 
 // A page of an image: the last is what remains, and there is nothing after it.
 fn image_page<'a>(image: &'a [u8], index: usize) -> &'a [u8]
-    requires { ⌜ page * index < 16777216 ⌝ }
+    requires { ⌜ page * index < longestChip ⌝ }
     ensures { λ r. ⌜ now r ≡ pageOf (now (image .entry)) index ⌝ }
 {
     let from = min(Spi::PAGE * index, image.len());
@@ -106,7 +106,7 @@ fn image_page<'a>(image: &'a [u8], index: usize) -> &'a [u8]
 
 // What an order programs, or looks for before the FF: a page of the image, ON, or nothing.
 pub fn carried_bytes<'a>(image: &'a [u8], phase: u32, index: usize, on: &'a [u8]) -> &'a [u8]
-    requires { ⌜ (page * index < 16777216) × (now on ≡ spiOn) ⌝ }
+    requires { ⌜ (page * index < longestChip) × (now on ≡ spiOn) ⌝ }
     ensures { λ r. ⌜ now r ≡ carried spi (now (image .entry)) phase index ⌝ }
 {
     match phase {
@@ -118,7 +118,7 @@ pub fn carried_bytes<'a>(image: &'a [u8], phase: u32, index: usize, on: &'a [u8]
 
 // The bytes that an order programs, then FF; all FF where it programs nothing.
 pub fn bytes_at(image: &[u8], phase: u32, index: usize) -> [u8; 256]
-    requires { ⌜ page * index < 16777216 ⌝ }
+    requires { ⌜ page * index < longestChip ⌝ }
     ensures { λ r. ⌜ ((layout : Layout) → r ≡ orderBytes (orderOf spi layout (now (image .entry)) phase index)) ⌝ }
 {
     let on = Spi::ON;

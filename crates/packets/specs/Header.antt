@@ -5,7 +5,7 @@ use lib.Dec.{eqb, ltb}
 use Rattle.base.specs.Question.{ask}
 use Rattle.packets.specs.Types.{Header, Nop, Type1, Type2, BadHeader, Effect, GoesOn, Desync, EffectIprog}
 
--- so many bits of a word, from bit `low` up
+-- `width` bits of a word, from bit `low` up
 abbrev pub field : ℕ → ℕ → ℕ → ℕ
 field word low width = word / 2 ^ low % 2 ^ width
 

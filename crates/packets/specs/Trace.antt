@@ -14,7 +14,7 @@ pub data Before : Type 0 where
   opened : ℕ → Before
   other : Before
 
--- What the next word is: a header, with what the word just before it allows, or a data word for the register, with so many more after it.
+-- What the next word is: a header, with what the word just before it allows, or a data word for the register, with how many more come after it.
 pub data Mode : Type 0 where
   header : Before → Mode
   payload : ℕ → ℕ → Mode

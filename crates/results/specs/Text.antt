@@ -1,5 +1,4 @@
 -- A C host gets numbers: a refusal's number, or 0 for none, and beside it the place or the values. What does not apply is 0. Here for the reader of MCS text.
-use mathlib.Core.Bool.{cond}
 use Rattle.results.specs.Types.{ReadAnswer, Read, ReadRefused, TealsettleRead}
 
 -- `tealsettle_mcs_read`

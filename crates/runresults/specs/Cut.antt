@@ -1,6 +1,4 @@
 -- A C host gets numbers: a refusal's number, or 0 for none, and beside it the place or the values. What does not apply is 0. Here for a run that is cut.
-use Prim.Native.Nat.{ℕ}
-use mathlib.Core.List.{List}
 use Rattle.runresults.specs.Run.{stateResult, noState}
 use Rattle.runresults.specs.Types.{BenchAnswer, Reached, BenchRefused, TealsettleBench}
 

@@ -61,28 +61,28 @@ pub fn start(layout: Layout, image: &[u8]) -> StartAnswer
 }
 
 // Question 4 of a layout that is allowed, then the number of orders.
-fn total_allowed(layout: Layout, length: usize) -> TotalAnswer
+fn total_allowed(layout: Layout, image_length: usize) -> TotalAnswer
     requires { ⌜ layoutAnswer layout ≡ LayoutAllowed ⌝ }
-    ensures { λ r. ⌜ r ≡ totalAnswer layout length ⌝ }
+    ensures { λ r. ⌜ r ≡ totalAnswer layout «image_length» ⌝ }
 {
-    if !image_length_allowed(layout.update_length, length) {
+    if !image_length_allowed(layout.update_length, image_length) {
         return TotalAnswer::Refused {
             number: refusal::BAD_IMAGE_LENGTH,
             place: 0,
         };
     }
     TotalAnswer::Total {
-        orders: orders_before(layout, length, 7),
+        orders: orders_before(layout, image_length, 7),
     }
 }
 
-// How many orders a run has with an image of so many bytes; or refusal 1 to 4.
-pub fn total(layout: Layout, length: usize) -> TotalAnswer
-    ensures { λ r. ⌜ r ≡ totalAnswer layout length ⌝ }
+// How many orders a run has with an image of this length; or refusal 1 to 4.
+pub fn total(layout: Layout, image_length: usize) -> TotalAnswer
+    ensures { λ r. ⌜ r ≡ totalAnswer layout «image_length» ⌝ }
 {
     let allowed = layout.check();
     match allowed {
-        LayoutAnswer::Allowed => total_allowed(layout, length),
+        LayoutAnswer::Allowed => total_allowed(layout, image_length),
         LayoutAnswer::Refused { number, place } => TotalAnswer::Refused { number, place },
     }
 }

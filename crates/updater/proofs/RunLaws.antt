@@ -4,7 +4,7 @@ use mathlib.Core.Path.{_≡_, refl, sym, ap, _∙_}
 use mathlib.Core.Logic.{_⊎_, inl, inr, ⊎-elim}
 use mathlib.Core.Bool.{Bool, true, false}
 use native.Mathlib.Omega.{arith}
-use borrow.Author.Tests.{ltb-true, ltb-false, leb-true, eqb-true, lt-ltb, le-ltb, eq-eqb}
+use borrow.Author.Tests.{ltb-true, ltb-false, eqb-true, lt-ltb, le-ltb, eq-eqb}
 use lib.Dec.{eqb, ltb}
 use Rattle.base.specs.Question.{ask}
 use Rattle.kind.specs.Layout.{chipLengthAllowed, imageLengthAllowed, page, segment, updatePlaceAllowed, updateLengthAllowed, askLayout}

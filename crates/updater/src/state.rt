@@ -59,7 +59,7 @@ fn phase_consistent(state: State) -> bool
     outcome_allowed(state.outcome)
 }
 
-// Question 6, for an image of so many bytes.
+// Question 6, for an image of `lent` bytes.
 pub(crate) fn fits_image(state: State, lent: usize) -> bool
     ensures { λ r. ⌜ r ≡ fits state lent ⌝ }
 {

@@ -7,7 +7,7 @@ use Rattle.packets.specs.Header.{effectOf}
 use Rattle.packets.specs.Trace.{other, Trace, wrote, desync, iprog, faulty, short, trace, modeOf, listOf}
 use Rattle.writes.specs.Types.{GoesOn, Desync, EffectIprog, Write, Cursor, CursorStep, Wrote, Done}
 
--- a cursor before the first of so many writes of the packets from a place on
+-- a cursor before the first of `writes` writes of the packets from a place
 abbrev pub cursorAt : ℕ → ℕ → Cursor
 cursorAt from writes = record { at = from; register = 0; left = 0; remaining = writes }
 
@@ -19,7 +19,7 @@ traceAt bytes c = trace (words (drop (c .at) bytes)) (c .at) (modeOf (c .left) (
 abbrev pub remainingWrites : List ℕ → Cursor → List Write
 remainingWrites bytes c = take (c .remaining) (listOf (traceAt bytes c))
 
--- the cursor after a write, of which so many data words of its packet are left; nothing is to come after DESYNC or IPROG
+-- the cursor after a write, with `left` data words of its packet to come; nothing is to come after DESYNC or IPROG
 unfoldable pub afterWrite : Write → ℕ → ℕ → Cursor
 afterWrite write left remaining = record {
   at = write .place + 4;

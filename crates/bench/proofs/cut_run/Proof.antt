@@ -5,6 +5,7 @@ use mathlib.Core.Bool.{true}
 use mathlib.Core.List.{List}
 use borrow.Author.Needs.{needs}
 use lib.ListN.{length, drop}
+use Rattle.base.specs.Refusal.{badDamage}
 use Rattle.base.specs.Question.{ask}
 use Rattle.kind.specs.Spi.{spi}
 use Rattle.kind.specs.Layout.{layoutOf}
@@ -23,7 +24,7 @@ use Rattle.bench.proofs.cut_run.Tie as tie
 
 -- What is asked of a run that is started, in a layout.
 abbrev cutAnswer : Layout → List ℕ → List ℕ → ℕ → List ℕ → BenchAnswer
-cutAnswer layout chip image cut damage = ask (cutAllowed (drop cut (orders spi layout image)) (chipAfter spi layout image cut chip) damage) (BenchRefused 13 0) (Reached (stateAt layout image cut))
+cutAnswer layout chip image cut damage = ask (cutAllowed (drop cut (orders spi layout image)) (chipAfter spi layout image cut chip) damage) (BenchRefused badDamage 0) (Reached (stateAt layout image cut))
 
 by-begun : (layout : Layout) (chip image : List ℕ) (cut : ℕ) (damage : List ℕ) (answer : StartAnswer) → startAnswer spi layout image ≡ answer → onStart BenchRefused (cutAnswer layout chip image cut damage) answer ≡ benchAnswer spi layout chip image cut damage
 unfolding benchAnswer
@@ -85,7 +86,7 @@ returns-2 c =
     let e = sym (c .before .before .before .start .ensures) ∙ c .before .started2 .given .1 in
     let l = c .before .before .before .before .layout .ensures in
     let r = by-begun (c .before .before .before .before .layout .result) chip image (a .cut) damage _ e ∙ ap (λ (x : Layout). benchAnswer spi x chip image (a .cut) damage) l in
-    (r, ap (λ (y : BenchAnswer). benchOutput y spi (layoutOf (length chip) (a .update) (a .area)) chip image (a .cut) damage) r)
+    (r, ap (λ (y : BenchAnswer). benchOutput y spi (layoutOf (length chip) (a .update-place) (a .update-length)) chip image (a .cut) damage) r)
 
 pub cut-run-spec : {M : Type 1} → statement M
 cut-run-spec =

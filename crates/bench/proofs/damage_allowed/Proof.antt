@@ -44,12 +44,13 @@ erase-within state image place count f r e =
     let s = erase-span (currentOrder spi state image) place count e in
     omega arith
 
+the-erase : (c : tie.After-operation) → c .operation .given .0 .0 + c .operation .given .0 .1 .0 ≤ c .before .before .before .before .before .before .before .before .args .state .layout .«chip_length»
+the-erase c =
+    let begun = c .before .before .before .before .before .before .before .before in
+    erase-within (begun .args .state) (begun .args .image .now) _ _ (begun .pre .0) (lt-ltb (begun .args .state .phase) 7 (omega arith)) (sym (the-order (c .before .before)) ∙ c .operation .given .1)
+
 add-span-allowed : tie.Need-add-span-allowed
-add-span-allowed c =
-    let a = c .before .before .before .before .before .before .before .before .before .args in
-    let p = c .before .before .before .before .before .before .before .before .before .pre in
-    let w = erase-within (a .state) (a .image .now) _ _ (p .0) (lt-ltb (a .state .phase) 7 (omega arith)) (sym (the-order (c .before .before .before)) ∙ c .before .operation .given .1) in
-    omega arith
+add-span-allowed c = let w = the-erase (c .before) in omega arith
 
 sub-span-allowed : tie.Need-sub-span-allowed
 sub-span-allowed c = search needs
@@ -58,11 +59,7 @@ part-span-allowed-start : tie.Need-part-span-allowed-start
 part-span-allowed-start c = search needs
 
 part-span-allowed-end : tie.Need-part-span-allowed-end
-part-span-allowed-end c =
-    let a = c .before .before .before .before .before .before .before .before .before .args in
-    let p = c .before .before .before .before .before .before .before .before .before .pre in
-    let w = erase-within (a .state) (a .image .now) _ _ (p .0) (lt-ltb (a .state .phase) 7 (omega arith)) (sym (the-order (c .before .before .before)) ∙ c .before .operation .given .1) in
-    omega arith
+part-span-allowed-end c = let w = the-erase (c .before) in omega arith
 
 span-allowed-requires : tie.Need-span-allowed-requires
 span-allowed-requires c κs = search needs

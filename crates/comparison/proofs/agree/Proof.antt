@@ -1,4 +1,4 @@
--- `run::agree` meets its contract.
+-- `comparison::agree` meets its contract.
 use Prim.Native.Nat.{_-_}
 use mathlib.Core.Path.{_≡_}
 use native.Mathlib.Omega.{arith}

@@ -1,4 +1,4 @@
--- `run::all_erased` meets its contract. The loop's invariant: while `all` is true, the first i bytes are FF.
+-- `comparison::all_erased` meets its contract. The loop's invariant: while `all` is true, the first i bytes are FF.
 use Prim.Native.Nat.{ℕ, _-_, _<_, _≤_}
 use mathlib.Core.Path.{_≡_, sym, _∙_}
 use mathlib.Core.Bool.{true}

@@ -1,4 +1,4 @@
--- `run::compare` meets its contract: bytes that agree differ nowhere.
+-- `comparison::compare` meets its contract: bytes that agree differ nowhere.
 use mathlib.Core.Path.{sym, ap, _∙_}
 use borrow.Author.Needs.{needs}
 use Rattle.comparison.specs.Comparison.{differs}

@@ -1,4 +1,4 @@
--- `run::first_difference` meets its contract. The loop's invariant: the first i bytes agree, so what differs is among the rest.
+-- `comparison::first_difference` meets its contract. The loop's invariant: the first i bytes agree, so what differs is among the rest.
 use Prim.Native.Nat.{ℕ, _+_, _-_, _≤_}
 use mathlib.Core.Path.{_≡_, sym, ap, _∙_}
 use mathlib.Core.Logic.{⊎-elim}

@@ -1,4 +1,4 @@
--- `run::padded_page` meets its contract. The loop's invariant: a page of FF with the first i bytes stored at its front.
+-- `comparison::padded_page` meets its contract. The loop's invariant: a page of FF with the first i bytes stored at its front.
 use Prim.Native.Nat.{ℕ, _-_, _≤_}
 use mathlib.Core.Path.{_≡_, refl, ap, _∙_}
 use mathlib.Core.List.{List, _++_}

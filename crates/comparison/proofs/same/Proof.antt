@@ -1,4 +1,4 @@
--- `run::same` meets its contract. The loop's invariant: while `all` is true, the first i bytes are the same.
+-- `comparison::same` meets its contract. The loop's invariant: while `all` is true, the first i bytes are the same.
 use Prim.Native.Nat.{ℕ, _-_, _<_, _≤_}
 use mathlib.Core.Path.{_≡_, sym, _∙_}
 use mathlib.Core.Bool.{true}

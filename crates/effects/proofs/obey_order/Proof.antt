@@ -48,18 +48,17 @@ page-of state image bytes place count f r e b =
     let n = program-count (currentOrder spi state image) place count e in
     (omega arith, ap (λ (l : List ℕ). length l) b ∙ padded-length page (programmed (currentOrder spi state image)) m)
 
+the-page : (c : tie.After-current-bytes) → (c .before .before .operation2 .given .0 .1 .0 ≤ 256) × (length (c .current-bytes .result) ≡ 256)
+the-page c =
+    let begun = c .before .before .before .before .before .before .before in
+    page-of (begun .args .state) (begun .args .image .now) _ _ _ (begun .pre .0) (begun .pre .1) (sym (the-order (c .before .before .before .before)) ∙ c .before .before .operation2 .given .1) (c .current-bytes .ensures)
+
 array-share-prefix-bytes : tie.Need-array-share-prefix-bytes
-array-share-prefix-bytes c =
-    let a = c .before .before .before .before .before .before .before .before .args in
-    let p = c .before .before .before .before .before .before .before .before .pre in
-    let m = page-of (a .state) (a .image .now) _ _ _ (p .0) (p .1) (sym (the-order (c .before .before .before .before .before)) ∙ c .before .before .before .operation2 .given .1) (c .before .current-bytes .ensures) in
-    omega arith
+array-share-prefix-bytes c = let m = the-page (c .before) in omega arith
 
 slice-aggregate-program : tie.Need-slice-aggregate-program
 slice-aggregate-program c =
-    let a = c .before .before .before .before .before .before .before .before .before .args in
-    let p = c .before .before .before .before .before .before .before .before .before .pre in
-    let m = page-of (a .state) (a .image .now) _ _ _ (p .0) (p .1) (sym (the-order (c .before .before .before .before .before .before)) ∙ c .before .before .before .before .operation2 .given .1) (c .before .before .current-bytes .ensures) in
+    let m = the-page (c .before .before) in
     sym (length-take-le (c .before .before .before .before .operation2 .given .0 .1 .0) (c .before .before .current-bytes .result) (omega arith))
 
 program-requires : tie.Need-program-requires

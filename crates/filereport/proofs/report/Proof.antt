@@ -1,10 +1,12 @@
 -- `filereport::report` meets its contract.
-use Prim.Native.Nat.{ℕ}
+use Prim.Native.Nat.{ℕ, _≤_}
 use mathlib.Core.Path.{_≡_, sym, ap, _∙_}
 use mathlib.Core.List.{List}
 use native.Mathlib.Omega.{arith}
 use lib.ListN.{length, take}
 use lib.Seq.{length-take-le}
+use Rattle.mcs.specs.Reading.{Holds, readText}
+use Rattle.mcs.specs.Reader.{readOutput}
 use Rattle.mcs.proofs.Laws.{read-says, refused-says}
 use Rattle.filereport.specs.Filereport.{builtReport}
 use Rattle.report.specs.Refusal.{written}
@@ -40,19 +42,25 @@ read-requires c κs = search needs
 enum-known-held : tie.Need-enum-known-held
 enum-known-held c = search needs
 
+-- Where the text holds an image: what reading it into the buffer says.
+module _ (c : tie.After-held) where
+  abbrev text : List ℕ
+  text = c .before .before .before .before .before .before .before .before .before .args .text .now
+
+  abbrev buffer : List ℕ
+  buffer = c .before .before .before .before .before .buffer .result
+
+  abbrev count : ℕ
+  count = c .held .given .0 .0
+
+  says : (image : List ℕ) × ((readText text ≡ Holds image) × ((count ≤ length (readOutput text buffer)) × (take count (readOutput text buffer) ≡ image)))
+  says = read-says text buffer count (sym (c .before .before .before .read .ensures .0) ∙ c .held .given .1)
+
 array-share-prefix-image : tie.Need-array-share-prefix-image
-array-share-prefix-image c =
-    let text = c .before .before .before .before .before .before .before .before .before .before .args .text .now in
-    let buffer = c .before .before .before .before .before .before .buffer .result in
-    let says = read-says text buffer (c .before .held .given .0 .0) (sym (c .before .before .before .before .read .ensures .0) ∙ c .before .held .given .1) in
-    rw (c .before .before .before .before .read .ensures .1) (says .1 .1 .0)
+array-share-prefix-image c = rw (c .before .before .before .before .read .ensures .1) (says (c .before) .1 .1 .0)
 
 slice-aggregate-built-report : tie.Need-slice-aggregate-built-report
-slice-aggregate-built-report c =
-    let text = c .before .before .before .before .before .before .before .before .before .before .before .args .text .now in
-    let buffer = c .before .before .before .before .before .before .before .buffer .result in
-    let says = read-says text buffer (c .before .before .held .given .0 .0) (sym (c .before .before .before .before .before .read .ensures .0) ∙ c .before .before .held .given .1) in
-    sym (length-take-le _ _ (rw (c .before .before .before .before .before .read .ensures .1) (says .1 .1 .0)))
+slice-aggregate-built-report c = sym (length-take-le _ _ (rw (c .before .before .before .before .before .read .ensures .1) (says (c .before .before) .1 .1 .0)))
 
 built-report-requires : tie.Need-built-report-requires
 built-report-requires c κs = search needs
@@ -68,12 +76,10 @@ same-length-2 c = search needs
 
 returns-2 : tie.Need-returns-2
 returns-2 c =
-    let text = c .before .before .before .before .before .before .before .before .before .before .before .before .before .before .before .args .text .now in
-    let buffer = c .before .before .before .before .before .before .before .before .before .before .before .buffer .result in
-    let says = read-says text buffer (c .before .before .before .before .before .before .held .given .0 .0) (sym (c .before .before .before .before .before .before .before .before .before .read .ensures .0) ∙ c .before .before .before .before .before .before .held .given .1) in
-    let out = c .before .before .before .before .before .before .before .before .before .before .before .before .before .before .before .args .out .now in
-    let image = ap (λ (l : List ℕ). take (c .before .before .before .before .before .before .held .given .0 .0) l) (c .before .before .before .before .before .before .before .before .before .read .ensures .1) ∙ says .1 .1 .1 in
-    let line = ap (λ (l : List ℕ). builtReport l) image ∙ sym (reports-image text (says .0) (omega arith) (says .1 .0)) in (
+    let held = c .before .before .before .before .before .before in
+    let out = held .before .before .before .before .before .before .before .before .before .args .out .now in
+    let image = ap (λ (l : List ℕ). take (count held) l) (held .before .before .before .read .ensures .1) ∙ says held .1 .1 .1 in
+    let line = ap (λ (l : List ℕ). builtReport l) image ∙ sym (reports-image (text held) (says held .0) (omega arith) (says held .1 .0)) in (
       c .before .before .built-report .ensures .0 ∙ ap (λ (l : List ℕ). written l (length out)) line,
       c .before .before .built-report .ensures .1 ∙ ap (λ (l : List ℕ). frontFilled l out) line,
     )

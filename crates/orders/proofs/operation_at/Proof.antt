@@ -35,7 +35,7 @@ mul-min c = search needs
 sub-min : tie.Need-sub-min
 sub-min c =
     let args = c .before .before .args in
-    let h = image-pages (args .layout) (args .n) (args .index) (rw (c .match .keys4) at (c .before .before .pre .0)) in
+    let h = image-pages (args .layout) (args .image-length) (args .index) (rw (c .match .keys4) at (c .before .before .pre .0)) in
     omega arith
 
 min-requires : tie.Need-min-requires
@@ -78,7 +78,7 @@ unfolding orderOf byPhase operationOf
 returns-7 c = λ image n.
     let args = c .before .before .args in
     let k = c .match .rest in
-    let last : args .phase ≡ 6 = last-phase (args .layout) (args .n) (args .phase) (args .index) (c .before .before .pre .0) (k .0 .0 .0 .0 .0 .1) (k .0 .0 .0 .0 .1) (k .0 .0 .0 .1) (k .0 .0 .1) (k .0 .1) (k .1) in
+    let last : args .phase ≡ 6 = last-phase (args .layout) (args .image-length) (args .phase) (args .index) (c .before .before .pre .0) (k .0 .0 .0 .0 .0 .1) (k .0 .0 .0 .0 .1) (k .0 .0 .0 .1) (k .0 .0 .1) (k .0 .1) (k .1) in
     rw last refl
 
 pub operation-at-spec : {M : Type 1} → statement M

@@ -1,6 +1,6 @@
 -- `orders_before` meets its contract: the counts of the phases, added up.
-use Prim.Native.Nat.{ℕ, _+_, _-_, _≤_}
-use mathlib.Core.Path.{_≡_, refl, sym, ap, _∙_}
+use Prim.Native.Nat.{_+_, _-_, _≤_}
+use mathlib.Core.Path.{_≡_, refl, ap, _∙_}
 use native.Mathlib.Omega.{arith}
 use borrow.Author.Needs.{needs}
 use Rattle.orders.specs.Table.{count, countBefore, total}
@@ -23,13 +23,13 @@ orders-in-requires c κs = search needs
 
 -- the orders up to the end of the phase that is added
 more : (c : tie.After-orders-in Inv-loop μ-loop) →
-    c .before .before .loop .orders + c .orders-in .result ≡ countBefore (c .before .before .before .args .layout) (c .before .before .before .args .length) (c .before .before .loop .i + 1)
+    c .before .before .loop .orders + c .orders-in .result ≡ countBefore (c .before .before .before .args .layout) (c .before .before .before .args .image-length) (c .before .before .loop .i + 1)
 more c =
     let args = c .before .before .before .args in
     let i = c .before .before .loop .i in
-    let orders : c .before .before .loop .orders ≡ countBefore (args .layout) (args .length) i = c .before .before .loop .inv .1 in
-    let added : c .orders-in .result ≡ count (args .layout) (args .length) i = c .orders-in .ensures in
-    let next = before-next (args .layout) (args .length) i in
+    let orders : c .before .before .loop .orders ≡ countBefore (args .layout) (args .image-length) i = c .before .before .loop .inv .1 in
+    let added : c .orders-in .result ≡ count (args .layout) (args .image-length) i = c .orders-in .ensures in
+    let next = before-next (args .layout) (args .image-length) i in
     omega arith
 
 add-orders : tie.Need-add-orders Inv-loop μ-loop
@@ -37,8 +37,8 @@ add-orders c =
     let args = c .before .before .before .args in
     let i = c .before .before .loop .i in
     let pre = c .before .before .before .pre in
-    let bound : countBefore (args .layout) (args .length) (i + 1) ≤ total (args .layout) (args .length) = before-total (args .layout) (args .length) (i + 1) (omega arith) in
-    omega (arith, more c, bound, total-is (args .layout) (args .length))
+    let bound : countBefore (args .layout) (args .image-length) (i + 1) ≤ total (args .layout) (args .image-length) = before-total (args .layout) (args .image-length) (i + 1) (omega arith) in
+    omega (arith, more c, bound, total-is (args .layout) (args .image-length))
 
 add-i : tie.Need-add-i Inv-loop μ-loop
 add-i c = search needs
@@ -53,7 +53,7 @@ returns : tie.Need-returns Inv-loop μ-loop
 returns c =
     let args = c .before .before .args in
     let here : c .before .loop .i ≡ args .phase = omega arith in
-    c .before .loop .inv .1 ∙ ap (countBefore (args .layout) (args .length)) here
+    c .before .loop .inv .1 ∙ ap (countBefore (args .layout) (args .image-length)) here
 
 pub orders-before-spec : {M : Type 1} → statement M
 orders-before-spec =

@@ -26,7 +26,7 @@ returns-3 c = rw (c .before .match .keys3) refl
 
 returns-4 : tie.Need-returns-4
 unfolding count byPhase
-returns-4 c = rw (c .match .keys4) (rounded-up (c .before .args .length))
+returns-4 c = rw (c .match .keys4) (rounded-up (c .before .args .image-length))
 
 returns-5 : tie.Need-returns-5
 unfolding count byPhase

@@ -1,4 +1,4 @@
--- `run::start` meets its contract.
+-- `starts::start` meets its contract.
 use mathlib.Core.Path.{refl, sym, _∙_}
 use Rattle.starts.proofs.StartLaws.{start-by}
 use Rattle.kind.proofs.Laws.{onLayout}

@@ -1,4 +1,4 @@
--- `run::start_allowed` meets its contract.
+-- `starts::start_allowed` meets its contract.
 use mathlib.Core.Path.{sym, _∙_}
 use Rattle.starts.proofs.StartLaws.{start-by}
 use Rattle.bootreader.proofs.Laws.{onAnswer}

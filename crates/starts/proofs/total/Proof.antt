@@ -1,4 +1,4 @@
--- `run::total` meets its contract.
+-- `starts::total` meets its contract.
 use mathlib.Core.Path.{sym, _∙_}
 use Rattle.kind.proofs.Laws.{onLayout}
 use Rattle.starts.proofs.StartLaws.{total-by}
@@ -24,7 +24,7 @@ returns c = c .total-allowed .ensures
 returns-2 : tie.Need-returns-2
 unfolding onLayout
 returns-2 c =
-    total-by (c .before .before .before .before .args .layout) (c .before .before .before .before .args .length) _
+    total-by (c .before .before .before .before .args .layout) (c .before .before .before .before .args .image-length) _
     (sym (c .before .before .before .check .ensures) ∙ c .before .allowed .given .1)
 
 pub total-spec : {M : Type 1} → statement M

@@ -16,7 +16,7 @@ image-length-allowed-requires c κs = search needs
 returns : tie.Need-returns
 unfolding onLayout ask
 returns c =
-    let a = total-by (c .before .before .args .layout) (c .before .before .args .length) _ (c .before .before .pre) in
+    let a = total-by (c .before .before .args .layout) (c .before .before .args .image-length) _ (c .before .before .pre) in
     rw (sym (c .before .image-length-allowed .ensures) ∙ not-true _ (c .if1 .taken)) at a
 
 orders-before-requires : tie.Need-orders-before-requires
@@ -31,7 +31,7 @@ orders-before-requires c κs =
 returns-2 : tie.Need-returns-2
 unfolding onLayout ask
 returns-2 c =
-    let a = total-by (c .before .before .before .args .layout) (c .before .before .before .args .length) _ (c .before .before .before .pre) in
+    let a = total-by (c .before .before .before .args .layout) (c .before .before .before .args .image-length) _ (c .before .before .before .pre) in
     ap Total (c .orders-before .ensures)
     ∙ rw (sym (c .before .before .image-length-allowed .ensures) ∙ not-false _ (c .before .if1 .left)) at a
 

@@ -1,5 +1,4 @@
 -- `image::write` meets its contract: it goes by the image check.
-use Prim.Native.Nat.{_+_}
 use mathlib.Core.Path.{sym, ap, _∙_}
 use mathlib.Core.List.{List}
 use native.Mathlib.Omega.{arith}

@@ -1,4 +1,4 @@
--- `run::fits_image` meets its contract.
+-- `state::fits_image` meets its contract.
 use mathlib.Core.Path.{sym, _∙_}
 use borrow.Author.Tests.{not-true, not-false}
 use Rattle.base.specs.Question.{ask}

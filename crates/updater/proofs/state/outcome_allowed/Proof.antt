@@ -1,4 +1,4 @@
--- `run::outcome_allowed` meets its contract.
+-- `state::outcome_allowed` meets its contract.
 use mathlib.Core.Path.{refl}
 use borrow.Author.Tests.{eq-eqb, ne-eqb, le-leb, lt-leb}
 use Rattle.base.specs.Question.{ask}

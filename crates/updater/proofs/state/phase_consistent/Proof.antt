@@ -1,4 +1,4 @@
--- `run::phase_consistent` meets its contract.
+-- `state::phase_consistent` meets its contract.
 use mathlib.Core.Path.{refl}
 use borrow.Author.Tests.{lt-ltb, le-ltb, eq-eqb, ne-eqb}
 use Rattle.base.specs.Question.{ask}

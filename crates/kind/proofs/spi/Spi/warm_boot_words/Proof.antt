@@ -1,4 +1,4 @@
--- `builder::header` meets its contract.
+-- `Spi::warm_boot_words` meets its contract.
 use mathlib.Core.Path.{refl}
 use Rattle.kind.specs.Spi.{spiWarmBoot}
 use borrow.Author.Needs.{needs}
