@@ -1,6 +1,6 @@
--- Laws of yes and no, and of a question.
+-- Laws of yes and no, of a question, and of an answer.
 use Prim.Native.Nat.{ℕ, _+_, _-_, _<_, _≤_}
-use mathlib.Core.Path.{_≡_, refl, sym}
+use mathlib.Core.Path.{_≡_, refl, sym, ap}
 use mathlib.Core.Bool.{Bool, true, false, _&&_}
 use mathlib.Core.Logic.{_⊎_, inl, inr}
 use native.Mathlib.Omega.{arith}
@@ -10,6 +10,7 @@ use lib.Dec.{ltb, leb}
 use lib.ListN.{length, drop}
 use Rattle.base.specs.Question.{ask}
 use Rattle.base.specs.Output.{frontFilled}
+use Rattle.base.specs.Answer.{Numbered, Gives}
 
 pub false-true : false ≡ true → ⊥
 false-true e = let z : _≡_ {A = ℕ} 0 1 = cc in omega arith
@@ -53,3 +54,7 @@ fits-after length place count h = go (leb count (length - place)) refl
 pub front-fits : (output buffer : List ℕ) → length output ≤ length buffer → frontFilled output buffer ≡ output ++ drop (length output) buffer
 unfolding frontFilled ask
 front-fits output buffer fits = rw (le-leb (length output) (length buffer) fits) refl
+
+-- An answer that is the one defined has its number and values.
+pub gives : {A : Type 0} (numbers : A → Numbered) (answer defined : A) → answer ≡ defined → Gives numbers answer defined
+gives numbers answer defined same = record { same = same; numbered = ap numbers same }

@@ -1,5 +1,6 @@
 // What every crate above shares: the numbers of refusals (`refusal`), and the smaller of two numbers. In specs/
-// also how a question is asked (`Question`) and how output fills a lent buffer (`Output`).
+// also how a question is asked (`Question`), an answer in numbers (`Answer`) and how output fills a lent buffer
+// (`Output`).
 ghost use mathlib.Core.Path.{_≡_};
 ghost use Prim.Native.Nat.{min};
 

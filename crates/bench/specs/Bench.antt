@@ -6,11 +6,13 @@ use lib.Bits.{bitAnd, bitXor}
 use lib.Dec.{eqb, leb, ltb}
 use lib.ListN.{length, take, drop}
 use Rattle.base.specs.Refusal.{badDamage}
+use Rattle.base.specs.Answer.{Numbered, result, refusal}
 use Rattle.base.specs.Question.{ask}
 use Rattle.kind.specs.Layout.{segment, layoutOf}
 use Rattle.flash.specs.Flash.{span}
 use Rattle.kind.specs.Kind.{Kind}
 use Rattle.bench.specs.Types.{Layout, BenchAnswer, Reached, BenchRefused}
+use Rattle.updater.specs.State.{stateNumbers}
 use Rattle.orders.specs.Orders.{Order, erase, program, look, orders}
 use Rattle.effects.specs.Effects.{orderPlace, obeyedSpan, leaves}
 use Rattle.effects.specs.Progress.{chipAfter, stateAt}
@@ -46,6 +48,11 @@ cutAllowed (order ∷ more) chip damage = damageAllowed order chip damage
 unfoldable pub cutIn : List Order → List ℕ → List ℕ → List ℕ
 cutIn [] chip damage = chip
 cutIn (order ∷ more) chip damage = leaves order chip (take (length (obeyedSpan order chip)) damage)
+
+-- in numbers: the state that was reached
+unfoldable pub benchNumbers : BenchAnswer → Numbered
+benchNumbers (Reached state) = result (stateNumbers state)
+benchNumbers (BenchRefused number place) = refusal number place
 
 -- `bench::cut_run`: questions 1 to 5, then 10; the run's state before order k + 1, and the chip as it then is. F is the length of the chip's bytes.
 unfoldable pub benchAnswer : Kind → Layout → List ℕ → List ℕ → ℕ → List ℕ → BenchAnswer

@@ -4,6 +4,7 @@ ghost use Prim.Native.Nat.{_<_};
 ghost use mathlib.Core.Path.{_≡_};
 ghost use mathlib.Core.Bool.{true};
 ghost use lib.ListN.{length, drop};
+ghost use Rattle.base.specs.Answer.{Gives};
 ghost use Rattle.base.specs.Question.{ask};
 ghost use Rattle.base.specs.Refusal.{badDamage};
 ghost use Rattle.kind.specs.Layout.{segment};
@@ -12,7 +13,7 @@ ghost use Rattle.kind.specs.Spi.{spi};
 ghost use Rattle.orders.specs.Orders.{orders};
 ghost use Rattle.updater.specs.State.{position, first, fits};
 ghost use Rattle.effects.specs.Progress.{chipAfter, stateAt};
-ghost use Rattle.bench.specs.Bench.{mixture, spanAllows, cutAllowed, cutIn, benchAnswer, benchOutput, benchLayout};
+ghost use Rattle.bench.specs.Bench.{mixture, spanAllows, cutAllowed, cutIn, benchNumbers, benchAnswer, benchOutput, benchLayout};
 ghost use Rattle.bench.specs.Types.{Reached, BenchRefused};
 use base::refusal;
 use effects::obey_orders;
@@ -87,7 +88,7 @@ fn damage_allowed(chip: &[u8], state: State, image: &[u8], damage: &[u8]) -> boo
     }
 }
 
-// What the cut order leaves.
+// What the cut order leaves. Its span lies within the chip, so nothing is refused.
 fn write_damage(chip: &mut [u8], state: State, image: &[u8], damage: &[u8])
     requires { ⌜ (fits state (length (now image)) ≡ true) × (state .layout .«chip_length» ≡ length (now chip)) × (cutAllowed (drop (position state) (orders spi (state .layout) (now image))) (now chip) (now damage) ≡ true) ⌝ }
     ensures { λ r. ⌜ now (chip .exit) ≡ cutIn (drop (position state) (orders spi (state .layout) (now (image .entry)))) (now (chip .entry)) (now (damage .entry)) ⌝ }
@@ -97,11 +98,8 @@ fn write_damage(chip: &mut [u8], state: State, image: &[u8], damage: &[u8])
     }
     let operation = current_operation(state);
     match operation {
-        Operation::Erase { place, length } => {
-            overwrite(chip, place, &damage[..length]);
-        }
-        Operation::Program { place, length } => {
-            overwrite(chip, place, &damage[..length]);
+        Operation::Erase { place, length } | Operation::Program { place, length } => {
+            let _ = overwrite(chip, place, &damage[..length]);
         }
         Operation::Look {
             place: _,
@@ -139,7 +137,7 @@ pub fn cut_run(
     cut: usize,
     damage: &[u8],
 ) -> BenchAnswer
-    ensures answer { λ r. ⌜ r ≡ benchAnswer spi (benchLayout (now (chip .entry)) «update_place» «update_length») (now (chip .entry)) (now (image .entry)) cut (now (damage .entry)) ⌝ }
+    ensures answer { λ r. ⌜ Gives benchNumbers r (benchAnswer spi (benchLayout (now (chip .entry)) «update_place» «update_length») (now (chip .entry)) (now (image .entry)) cut (now (damage .entry))) ⌝ }
     ensures output { λ r. ⌜ now (chip .exit) ≡ benchOutput (benchAnswer spi (benchLayout (now (chip .entry)) «update_place» «update_length») (now (chip .entry)) (now (image .entry)) cut (now (damage .entry))) spi (benchLayout (now (chip .entry)) «update_place» «update_length») (now (chip .entry)) (now (image .entry)) cut (now (damage .entry)) ⌝ }
 {
     let layout = Spi::layout(chip.len(), update_place, update_length);

@@ -14,15 +14,17 @@ use Rattle.base.specs.Question.{ask}
 use Rattle.packets.specs.Trace.{modeOf, traceFrom, finishFrom, writesFrom, contents, nthWrite, contentOf}
 use Rattle.configreader.specs.Configreader.{readFrom, readChip, readAlone, listed}
 use Rattle.writes.specs.Cursor.{cursorAt, remainingWrites, stepOf, nthStep}
+use Rattle.writes.specs.Theorems.{stepWrite}
 use Rattle.kind.specs.Layout.{chipLengthAllowed, imageLengthAllowed}
 use Rattle.bootreader.specs.Image.{longestImage, aloneCase, askImage, imageAnswer, imageWrite, imageListing}
 use Rattle.bootreader.specs.Boot.{bootCase, bootAnswer, cursorOf, chipWrite}
+use Rattle.bootreader.specs.Theorems.{WritesCounted}
 use Rattle.bootreader.specs.Types.{Outcome, Loaded, OutcomeIprog, Stuck, BootLoaded, ImageAnswer, Accepted, ImageRefused, FinishEnded, Write, WriteRefused, ListingOpen, ListingRefused}
 use Rattle.kind.proofs.Laws.{image-length-range}
 use Rattle.base.proofs.Laws.{asked}
 use Rattle.packets.proofs.Laws.{counted}
 use Rattle.configreader.proofs.Laws.{Proper, proper, alone-parts}
-use Rattle.writes.proofs.Laws.{given, nth-step}
+use Rattle.writes.proofs.Laws.{nth-step}
 
 -- what an image's answer comes to for one who asks more
 unfoldable pub onAnswer {ℓ} : {A : Type ℓ} → (ℕ → ℕ → A) → (ℕ → ℕ → ℕ → A) → ImageAnswer → A
@@ -102,14 +104,14 @@ opened-remaining left jumped s from l = go (readFrom left jumped s from) (proper
     go (Stuck place) p = refl
 
 -- The k-th step of a cursor opened on a chip, or on an image, gives the k-th write of the chip, or of the image read alone.
-pub chip-steps : (chip : List ℕ) (k : ℕ) → chipLengthAllowed (length chip) ≡ true → given (nthStep chip k (stepOf chip (cursorOf (readChip chip)))) ≡ chipWrite spi chip k
+pub chip-steps : (chip : List ℕ) (k : ℕ) → chipLengthAllowed (length chip) ≡ true → stepWrite (nthStep chip k (stepOf chip (cursorOf (readChip chip)))) ≡ chipWrite spi chip k
 unfolding chipWrite ask
 chip-steps chip k e =
     nth-step k chip (cursorOf (readChip chip))
     ∙ ap (λ (l : List Write). nthWrite l k) (opened-remaining 1 false chip 0 (omega arith))
     ∙ rw e refl
 
-pub image-steps : (image : List ℕ) (sync end writes k : ℕ) → imageAnswer spi image ≡ Accepted sync end writes → given (nthStep image k (stepOf image (cursorAt (sync + 4) writes))) ≡ imageWrite spi image k
+pub image-steps : (image : List ℕ) (sync end writes k : ℕ) → imageAnswer spi image ≡ Accepted sync end writes → stepWrite (nthStep image k (stepOf image (cursorAt (sync + 4) writes))) ≡ imageWrite spi image k
 unfolding imageAnswer onAnswer Proper
 image-steps image sync end writes k e =
     let p = rw (accepted-reads longestImage image sync end writes e) at (proper 0 false image 0 (omega arith)) in
@@ -118,8 +120,7 @@ image-steps image sync end writes k e =
     ∙ (rw e at (write-by-answer image k))
 
 -- A reading that is Loaded lists as many writes as it counts.
-pub listed-length : (left : ℕ) (jumped : Bool) (s : List ℕ) (from sync end writes : ℕ) (after : Bool) → from ≤ length s → readFrom left jumped s from ≡ Loaded sync end writes after →
-    length (listed s (Loaded sync end writes after)) ≡ writes
+pub listed-length : WritesCounted
 unfolding Proper listed
 listed-length left jumped s from sync end writes after l e =
     let p = rw e at (proper left jumped s from l) in

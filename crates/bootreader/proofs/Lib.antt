@@ -1,2 +1,3 @@
 pub mod AnswerLaws
+pub mod TheoremLaws
 pub mod Laws

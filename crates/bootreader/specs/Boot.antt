@@ -1,7 +1,9 @@
 -- What a chip loads: the public calls on a chip's bytes, each as one definition. Document 01, "How the configuration reader reads" and "Questions at the door".
 use Prim.Native.Nat.{ℕ, _+_}
-use mathlib.Core.List.{List}
+use mathlib.Core.Bool.{cond}
+use mathlib.Core.List.{List, [], _∷_}
 use lib.ListN.{length}
+use Rattle.base.specs.Answer.{Numbered, result, refusal}
 use Rattle.base.specs.Question.{ask}
 use Rattle.base.specs.Refusal.{badChipLength}
 use Rattle.kind.specs.Layout.{chipLengthAllowed}
@@ -21,6 +23,12 @@ unfoldable pub cursorOf : Outcome → Cursor
 cursorOf (Loaded sync end writes jumped) = cursorAt (sync + 4) writes
 cursorOf (OutcomeIprog place) = cursorAt 0 0
 cursorOf (Stuck place) = cursorAt 0 0
+
+-- in numbers: 0, jumped or not, sync, end, writes; 1 where the chip is stuck, with its place and no number
+unfoldable pub bootNumbers : BootAnswer → Numbered
+bootNumbers (BootLoaded sync end writes jumped) = result (0 ∷ cond jumped 1 0 ∷ sync ∷ end ∷ writes ∷ [])
+bootNumbers (BootStuck place) = record { number = 0; place = place; values = 1 ∷ [] }
+bootNumbers (BootRefused number place) = refusal number place
 
 -- `boot::answer`
 unfoldable pub bootAnswer : Kind → List ℕ → BootAnswer

@@ -1,7 +1,8 @@
 -- What an image loads by itself: the public calls on an image, each as one definition. Document 01, "Questions at the door".
 use Prim.Native.Nat.{ℕ, _+_}
-use mathlib.Core.List.{List}
+use mathlib.Core.List.{List, [], _∷_}
 use lib.ListN.{length}
+use Rattle.base.specs.Answer.{Numbered, result, refusal}
 use Rattle.base.specs.Question.{ask}
 use Rattle.base.specs.Refusal.{badImageLength, imageFault, imageJumps}
 use Rattle.kind.specs.Layout.{longestChip, imageLengthAllowed}
@@ -24,6 +25,11 @@ aloneCase refused accepted (Stuck place) = refused imageFault place
 abbrev pub askImage {ℓ} : {A : Type ℓ} → Kind → ℕ → (ℕ → ℕ → A) → (ℕ → ℕ → ℕ → A) → List ℕ → A
 askImage kind longest refused accepted image =
     ask (imageLengthAllowed longest (length image)) (refused badImageLength 0) (aloneCase refused accepted (kind .alone image))
+
+-- in numbers: sync, end, writes
+unfoldable pub imageNumbers : ImageAnswer → Numbered
+imageNumbers (Accepted sync end writes) = result (sync ∷ end ∷ writes ∷ [])
+imageNumbers (ImageRefused number place) = refusal number place
 
 -- `image::check_within`
 abbrev pub imageWithin : Kind → ℕ → List ℕ → ImageAnswer

@@ -2,3 +2,5 @@
 pub mod Types
 pub mod Image
 pub mod Boot
+-- What is proved of them, beside the contracts.
+pub mod Theorems

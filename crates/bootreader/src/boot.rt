@@ -1,7 +1,9 @@
 // What a chip loads: the calls on a chip's bytes. They ask question 1 of its length, and no more.
-ghost use mathlib.Core.Path.{_≡_};
+ghost use Rattle.base.specs.Answer.{Gives};
 ghost use Rattle.kind.specs.Spi.{spi};
-ghost use Rattle.bootreader.specs.Boot.{bootAnswer, chipWrite, chipListing};
+ghost use Rattle.packets.specs.Trace.{writeNumbers};
+ghost use Rattle.writes.specs.Cursor.{listingNumbers};
+ghost use Rattle.bootreader.specs.Boot.{bootNumbers, bootAnswer, chipWrite, chipListing};
 use base::refusal;
 use configreader::Outcome;
 use configreader::read_chip;
@@ -31,7 +33,7 @@ pub enum BootAnswer {
 // What a chip loads: the place of the last sync word, the place after the last word, the number of writes, jumped or
 // not; or where it is stuck; or refusal 1.
 pub fn answer(chip: &[u8]) -> BootAnswer
-    ensures { λ r. ⌜ r ≡ bootAnswer spi (now (chip .entry)) ⌝ }
+    ensures { λ r. ⌜ Gives bootNumbers r (bootAnswer spi (now (chip .entry))) ⌝ }
 {
     if !chip_length_allowed(chip.len()) {
         return BootAnswer::Refused {
@@ -59,7 +61,7 @@ pub fn answer(chip: &[u8]) -> BootAnswer
 
 // The i-th write, counted from 0, of what a chip loads: register, word, place; or that there is none; or refusal 1.
 pub fn write(chip: &[u8], i: usize) -> WriteAnswer
-    ensures { λ r. ⌜ r ≡ chipWrite spi (now (chip .entry)) i ⌝ }
+    ensures { λ r. ⌜ Gives writeNumbers r (chipWrite spi (now (chip .entry)) i) ⌝ }
 {
     if !chip_length_allowed(chip.len()) {
         return WriteAnswer::Refused {
@@ -82,7 +84,7 @@ pub fn write(chip: &[u8], i: usize) -> WriteAnswer
 
 // A cursor before the first write of what a chip loads, which has none to give on a chip that is stuck; or refusal 1.
 pub fn writes(chip: &[u8]) -> Listing
-    ensures { λ r. ⌜ r ≡ chipListing spi (now (chip .entry)) ⌝ }
+    ensures { λ r. ⌜ Gives listingNumbers r (chipListing spi (now (chip .entry))) ⌝ }
 {
     if !chip_length_allowed(chip.len()) {
         return Listing::Refused {

@@ -1,8 +1,11 @@
 // An image read by itself. Its calls ask question 4 of its length, then whether it reads alone to
 // Loaded: with no jump to give, an IPROG is refused with 6, every other fault with 5.
 ghost use mathlib.Core.Path.{_≡_};
+ghost use Rattle.base.specs.Answer.{Gives};
 ghost use Rattle.kind.specs.Spi.{spi};
-ghost use Rattle.bootreader.specs.Image.{aloneCase, imageWithin, imageAnswer, imageWrite, imageListing};
+ghost use Rattle.packets.specs.Trace.{writeNumbers};
+ghost use Rattle.writes.specs.Cursor.{listingNumbers};
+ghost use Rattle.bootreader.specs.Image.{aloneCase, imageNumbers, imageWithin, imageAnswer, imageWrite, imageListing};
 use base::refusal;
 use configreader::Outcome;
 use configreader::read_alone;
@@ -60,7 +63,7 @@ fn place_of(outcome: Outcome) -> usize
 
 // What an image loads by itself, for an area of `longest` bytes: sync, end, writes; or refusal 4, 5 or 6.
 pub fn check_within(image: &[u8], longest: usize) -> ImageAnswer
-    ensures { λ r. ⌜ r ≡ imageWithin spi longest (now (image .entry)) ⌝ }
+    ensures { λ r. ⌜ Gives imageNumbers r (imageWithin spi longest (now (image .entry))) ⌝ }
 {
     if !image_length_allowed(longest, image.len()) {
         return ImageAnswer::Refused {
@@ -86,14 +89,14 @@ pub fn check_within(image: &[u8], longest: usize) -> ImageAnswer
 
 // What an image loads by itself, with no area that it must fit into: sync, end, writes; or refusal 4, 5 or 6.
 pub fn check(image: &[u8]) -> ImageAnswer
-    ensures { λ r. ⌜ r ≡ imageAnswer spi (now (image .entry)) ⌝ }
+    ensures { λ r. ⌜ Gives imageNumbers r (imageAnswer spi (now (image .entry))) ⌝ }
 {
     check_within(image, Spi::LONGEST)
 }
 
 // The i-th write, counted from 0, of an image read by itself, or that there is none; or refusal 4, 5 or 6.
 pub fn write(image: &[u8], i: usize) -> WriteAnswer
-    ensures { λ r. ⌜ r ≡ imageWrite spi (now (image .entry)) i ⌝ }
+    ensures { λ r. ⌜ Gives writeNumbers r (imageWrite spi (now (image .entry)) i) ⌝ }
 {
     let answer = check(image);
     match answer {
@@ -108,7 +111,7 @@ pub fn write(image: &[u8], i: usize) -> WriteAnswer
 
 // A cursor before the first write of an image read by itself; or refusal 4, 5 or 6.
 pub fn writes(image: &[u8]) -> Listing
-    ensures { λ r. ⌜ r ≡ imageListing spi (now (image .entry)) ⌝ }
+    ensures { λ r. ⌜ Gives listingNumbers r (imageListing spi (now (image .entry))) ⌝ }
 {
     let answer = check(image);
     match answer {

@@ -9,7 +9,8 @@ fn input() -> [u8; 65537] {
     [0; 65537]
 }
 
-// Room for the longest report: 2,046 writes, 27 bytes each, and two lines.
+// Room for the longest report, which is counted and not proved (docs/DECISIONS.md, 53): 2,046 writes, 27 bytes each,
+// and two lines.
 fn output() -> [u8; 65536] {
     [0; 65536]
 }

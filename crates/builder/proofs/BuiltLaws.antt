@@ -1,4 +1,4 @@
--- A built chip is good, its switch is OFF, and it loads the golden image it was given.
+-- A built chip is well-formed, its switch is OFF, and it loads the golden image it was given.
 use Prim.Native.Nat.{ℕ, _+_, _-_, _<_, _≤_}
 use mathlib.Core.Path.{_≡_, refl, sym, ap, _∙_}
 use mathlib.Core.Bool.{Bool, true, false}
@@ -201,7 +201,7 @@ module _ (layout : Layout) (golden : List ℕ) (room : ℕ) (built : buildAnswer
     has = λ i h n m. rw (switch-blank i h, all-ones 8 n m) (bit-most n (getD spiOn i 0));
   }
 
-  -- BUILT IS GOOD.
+  -- A BUILT CHIP IS WELL-FORMED.
   pub built-well-formed : WellFormed spi (layout .«update_place») chip
   built-well-formed = record {
     long = rw (built-length layout golden golden-room) (facts .long);

@@ -1,9 +1,10 @@
 -- The first chip of a printer: the call as one definition for its answer and one for the lent buffer. Document 01, "The chip" and question 13.
 use Prim.Native.Nat.{ℕ, _-_}
 use mathlib.Core.Bool.{false}
-use mathlib.Core.List.{List}
+use mathlib.Core.List.{List, []}
 use lib.Dec.{leb}
 use lib.ListN.{length, take}
+use Rattle.base.specs.Answer.{Numbered, result, refusal}
 use Rattle.base.specs.Output.{frontFilled}
 use Rattle.base.specs.Refusal.{noRoom}
 use Rattle.base.specs.Question.{ask}
@@ -17,6 +18,11 @@ use Rattle.builder.specs.Types.{Layout, BuildAnswer, Built, BuildRefused
 -- A built chip has segment 1's words, its golden image at 8,192, and FF everywhere else, so its switch is OFF.
 abbrev pub builtChip : Kind → Layout → List ℕ → List ℕ
 builtChip kind layout golden = overwrite (overwrite (erased (layout .«chip_length»)) segment (kind .warmBoot (layout .«update_place»))) goldenAt golden
+
+-- in numbers: a chip that was built has no values
+unfoldable pub buildNumbers : BuildAnswer → Numbered
+buildNumbers Built = result []
+buildNumbers (BuildRefused number place) = refusal number place
 
 -- `builder::build`: questions 1 to 3; 4, for the golden area; 5; then 13 (refusal 19), whether the chip fits into the buffer
 unfoldable pub goldenAnswer : Kind → Layout → List ℕ → ℕ → BuildAnswer

@@ -3,9 +3,10 @@ ghost use mathlib.Core.Path.{_≡_};
 ghost use Prim.Native.Nat.{_+_, _≤_};
 ghost use lib.ListN.{length};
 ghost use Rattle.kind.specs.Spi.{spi};
+ghost use Rattle.base.specs.Answer.{Gives};
 ghost use Rattle.base.specs.Output.{frontFilled};
 ghost use Rattle.kind.specs.Layout.{layoutAnswer, goldenAt};
-ghost use Rattle.builder.specs.Builder.{builtChip, goldenAnswer, buildAnswer, outputOf, buildOutput, LoadsGolden};
+ghost use Rattle.builder.specs.Builder.{builtChip, goldenAnswer, buildNumbers, buildAnswer, outputOf, buildOutput, LoadsGolden};
 ghost use Rattle.builder.specs.Types.{LayoutAllowed};
 use base::refusal;
 use bootreader::image::ImageAnswer;
@@ -28,9 +29,10 @@ fn write_chip(layout: Layout, golden: &[u8], out: &mut [u8])
     ensures { λ r. ⌜ now (out .exit) ≡ frontFilled (builtChip spi layout (now (golden .entry))) (now (out .entry)) ⌝ }
 {
     let words = Spi::warm_boot_words(layout.update_place);
-    erase(out, 0, layout.chip_length);
-    overwrite(out, Spi::SEGMENT, &words);
-    overwrite(out, Spi::GOLDEN, golden);
+    // The spans lie within the buffer, so none of the three is refused.
+    let _ = erase(out, 0, layout.chip_length);
+    let _ = overwrite(out, Spi::SEGMENT, &words);
+    let _ = overwrite(out, Spi::GOLDEN, golden);
 }
 
 // Questions 4, 5 and 13, for a layout that is allowed.
@@ -62,7 +64,7 @@ fn build_allowed(layout: Layout, golden: &[u8], out: &mut [u8]) -> BuildAnswer
 // Builds a chip at the front of a buffer: F bytes, and those after them are unchanged. Refusals 1 to 6 and 19 leave the
 // buffer as it was.
 pub fn build(layout: Layout, golden: &[u8], out: &mut [u8]) -> BuildAnswer
-    ensures answer { λ r. ⌜ r ≡ buildAnswer spi layout (now (golden .entry)) (length (now (out .entry))) ⌝ }
+    ensures answer { λ r. ⌜ Gives buildNumbers r (buildAnswer spi layout (now (golden .entry)) (length (now (out .entry)))) ⌝ }
     ensures output { λ r. ⌜ now (out .exit) ≡ buildOutput spi layout (now (golden .entry)) (now (out .entry)) ⌝ }
     ensures loads { λ r. ⌜ LoadsGolden spi r layout (now (golden .entry)) (now (out .exit)) ⌝ }
 {

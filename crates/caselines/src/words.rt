@@ -21,8 +21,6 @@ pub const ENDED: u64 = 0x0065_6E64_6564;
 
 pub const ERASE: u64 = 0x0065_7261_7365;
 
-pub const FIRST: u64 = 0x0066_6972_7374;
-
 pub const ITEM: u64 = 0x6974_656D;
 
 pub const ITEMS: u64 = 0x0069_7465_6D73;
@@ -46,6 +44,10 @@ pub const OFF: u64 = 0x006F_6666;
 pub const ON: u64 = 0x6F6E;
 
 pub const ORDER: u64 = 0x006F_7264_6572;
+
+pub const PACKET: u64 = 0x7061_636B_6574;
+
+pub const PACKETS: u64 = 0x0070_6163_6B65_7473;
 
 pub const PROGRAM: u64 = 0x0070_726F_6772_616D;
 

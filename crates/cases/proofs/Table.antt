@@ -11,20 +11,20 @@ use Rattle.base.specs.Output.{frontFilled}
 use Rattle.packets.specs.Header.{registerOk, type1Of, type2Of, headOf, effectOf}
 use Rattle.packets.specs.Trace.{modeOf, afterHeader, trace, finish}
 use Rattle.configreader.specs.Configreader.{readAt, searchFrom, jump}
-use Rattle.kind.specs.Layout.{chipLengthAllowed, imageLengthAllowed, updatePlaceAllowed, updateLengthAllowed, askLayout, layoutAnswer}
-use Rattle.bootreader.specs.Image.{aloneCase, imageAnswer}
-use Rattle.chip.specs.Switch.{switchCase, switchAnswer}
+use Rattle.kind.specs.Layout.{chipLengthAllowed, imageLengthAllowed, updatePlaceAllowed, updateLengthAllowed, askLayout, layoutNumbers, layoutAnswer}
+use Rattle.bootreader.specs.Image.{imageNumbers, aloneCase, imageAnswer}
+use Rattle.chip.specs.Switch.{switchNumbers, switchCase, switchAnswer}
 use Rattle.orders.specs.Table.{byPhase, count, countBefore as runBefore}
 use Rattle.orders.specs.Orders.{inPhase, ordersBefore}
-use Rattle.starts.specs.Starts.{totalAnswer}
+use Rattle.starts.specs.Starts.{totalNumbers, totalAnswer}
 use Rattle.digits.specs.Digit.{digits, byteSum, placeIn, digitOf}
 use Rattle.mcsline.specs.Line.{isEnding, onto, bySpelled, spelledBy, lineSpells, byType, typed, parsed, byParsed}
 use Rattle.mcs.specs.Reading.{prepend, linesOf, follows, isEmpty, readLines}
-use Rattle.mcs.specs.Reader.{answerOf, heldOutput}
-use Rattle.cases.specs.Cases.{imageSays, textSays, layoutSays, switchSays, totalSays, All, jumping, rows}
+use Rattle.mcs.specs.Reader.{readNumbers, answerOf, heldOutput}
+use Rattle.cases.specs.Cases.{All, jumping, rows}
 
 table : All rows
-unfolding All rows imageSays textSays layoutSays switchSays totalSays answerOf heldOutput frontFilled readLines byParsed follows parsed bySpelled typed byType lineSpells spelledBy onto isEnding isEmpty linesOf prepend digitOf placeIn digits byteSum imageAnswer imageLengthAllowed aloneCase ask readAt searchFrom jump find beginsWith words trace finish afterHeader modeOf headOf type1Of type2Of registerOk effectOf layoutAnswer askLayout chipLengthAllowed updatePlaceAllowed updateLengthAllowed switchAnswer switchCase totalAnswer runBefore count byPhase ordersBefore inPhase
+unfolding All rows imageNumbers readNumbers layoutNumbers switchNumbers totalNumbers answerOf heldOutput frontFilled readLines byParsed follows parsed bySpelled typed byType lineSpells spelledBy onto isEnding isEmpty linesOf prepend digitOf placeIn digits byteSum imageAnswer imageLengthAllowed aloneCase ask readAt searchFrom jump find beginsWith words trace finish afterHeader modeOf headOf type1Of type2Of registerOk effectOf layoutAnswer askLayout chipLengthAllowed updatePlaceAllowed updateLengthAllowed switchAnswer switchCase totalAnswer runBefore count byPhase ordersBefore inPhase
 table = (
   λ rest h. refl,
   (

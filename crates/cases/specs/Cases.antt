@@ -3,49 +3,45 @@ use Prim.Native.Nat.{ℕ, _≤_}
 use mathlib.Core.Path.{_≡_}
 use mathlib.Core.List.{List, [], _∷_, _++_}
 use lib.ListN.{length, take, replicate}
-use Rattle.bootreader.specs.Image.{imageAnswer}
-use Rattle.cases.specs.Types.{ImageAnswer, Accepted, ImageRefused, LayoutAnswer, LayoutAllowed, LayoutRefused, SwitchAnswer, SwitchOn, SwitchOff, SwitchRefused, TotalAnswer, Total, TotalRefused, ReadAnswer, Read, ReadRefused}
+use Rattle.base.specs.Answer.{Numbered, result, refusal, value}
+use Rattle.bootreader.specs.Image.{imageNumbers, imageAnswer}
 use Rattle.flash.specs.Flash.{erased}
-use Rattle.kind.specs.Layout.{layoutOf, layoutAnswer}
-use Rattle.chip.specs.Switch.{switchAnswer}
+use Rattle.kind.specs.Layout.{layoutOf, layoutNumbers, layoutAnswer}
+use Rattle.chip.specs.Switch.{switchNumbers, switchAnswer}
 use Rattle.kind.specs.Spi.{spi}
-use Rattle.orders.specs.Orders.{Order, orders as runOrders}
-use Rattle.starts.specs.Starts.{totalAnswer}
-use Rattle.mcs.specs.Reader.{readAnswer, readOutput}
+use Rattle.orders.specs.Orders.{orders as runOrders}
+use Rattle.starts.specs.Starts.{totalNumbers, totalAnswer}
+use Rattle.mcs.specs.Reader.{readNumbers, readAnswer, readOutput}
 
--- what the paper says of a case: what loads, which image a text holds, that a layout is allowed, that a switch is ON or OFF, how many orders a run has by the total and how many are listed, or a refusal's number and place
-pub data Says : Type 0 where
-  loads : (sync end writes : ℕ) → Says
-  reads : (image : List ℕ) → Says
-  allows : Says
-  isOn : Says
-  isOff : Says
-  orders : (total listed : ℕ) → Says
-  refuses : (number place : ℕ) → Says
+-- What the paper says of a case: an answer in its numbers, and what is beside it, the bytes of an image that a text holds or how many orders are listed.
+abbrev pub Says : Type 0
+Says = Numbered × List ℕ
 
--- what a call answers, in the paper's values
-unfoldable pub imageSays : ImageAnswer → Says
-imageSays (Accepted sync end writes) = loads sync end writes
-imageSays (ImageRefused number place) = refuses number place
+abbrev pub refuses : ℕ → ℕ → Says
+refuses number place = (refusal number place, [])
 
--- the same of a text read into a buffer: the bytes that the answer says are there
-unfoldable pub textSays : ReadAnswer → List ℕ → Says
-textSays (Read n) output = reads (take n output)
-textSays (ReadRefused number place) output = refuses number place
+abbrev pub loads : ℕ → ℕ → ℕ → Says
+loads sync end writes = (result (sync ∷ end ∷ writes ∷ []), [])
 
-unfoldable pub layoutSays : LayoutAnswer → Says
-layoutSays LayoutAllowed = allows
-layoutSays (LayoutRefused number place) = refuses number place
+abbrev pub reads : List ℕ → Says
+reads image = (result (length image ∷ []), image)
 
-unfoldable pub switchSays : SwitchAnswer → Says
-switchSays SwitchOn = isOn
-switchSays SwitchOff = isOff
-switchSays (SwitchRefused number place) = refuses number place
+abbrev pub allows : Says
+allows = (result [], [])
 
--- the total that a run's length gives, beside the length of the list of its orders
-unfoldable pub totalSays : TotalAnswer → List Order → Says
-totalSays (Total total) list = orders total (length list)
-totalSays (TotalRefused number place) list = refuses number place
+abbrev pub isOff : Says
+isOff = (result (0 ∷ []), [])
+
+abbrev pub orders : ℕ → ℕ → Says
+orders total listed = (result (total ∷ []), listed ∷ [])
+
+-- an answer with nothing beside it
+abbrev pub alone : Numbered → Says
+alone numbers = (numbers, [])
+
+-- a text read into a buffer: as many bytes as the answer says
+abbrev pub textSays : Numbered → List ℕ → Says
+textSays numbers output = (numbers, take (value numbers 0) output)
 
 -- a case: the call, on any bytes that follow where the paper says "and more", and what the paper says of it
 pub record Row : Type 0 where
@@ -63,28 +59,28 @@ All (row ∷ rows) = Holds row × All rows
 
 -- an image with nothing after it
 abbrev pub image : List ℕ → Says → Row
-image bytes expected = record { asks = λ rest. imageSays (imageAnswer spi bytes); room = 0; says = expected }
+image bytes expected = record { asks = λ rest. alone (imageNumbers (imageAnswer spi bytes)); room = 0; says = expected }
 
 -- an image with anything after it that question 4 allows
 abbrev pub imageAndMore : List ℕ → ℕ → Says → Row
-imageAndMore bytes room expected = record { asks = λ rest. imageSays (imageAnswer spi (bytes ++ rest)); room = room; says = expected }
+imageAndMore bytes room expected = record { asks = λ rest. alone (imageNumbers (imageAnswer spi (bytes ++ rest))); room = room; says = expected }
 
 -- a text read into a buffer of 12 bytes and any more
 abbrev pub text : List ℕ → Says → Row
-text bytes expected = record { asks = λ rest. textSays (readAnswer bytes (replicate 12 0 ++ rest)) (readOutput bytes (replicate 12 0 ++ rest)); room = 16777204; says = expected }
+text bytes expected = record { asks = λ rest. textSays (readNumbers (readAnswer bytes (replicate 12 0 ++ rest))) (readOutput bytes (replicate 12 0 ++ rest)); room = 16777204; says = expected }
 
 -- a layout's F, U and A
 abbrev pub layout : ℕ → ℕ → ℕ → Says → Row
-layout length updatePlace updateLength expected = record { asks = λ rest. layoutSays (layoutAnswer (layoutOf length updatePlace updateLength)); room = 0; says = expected }
+layout length updatePlace updateLength expected = record { asks = λ rest. alone (layoutNumbers (layoutAnswer (layoutOf length updatePlace updateLength))); room = 0; says = expected }
 
 -- a chip of 16,384 bytes with a switch word, else erased
 abbrev pub switch : List ℕ → Says → Row
-switch word expected = record { asks = λ rest. switchSays (switchAnswer spi (erased 4092 ++ (word ++ erased 12288))); room = 0; says = expected }
+switch word expected = record { asks = λ rest. alone (switchNumbers (switchAnswer spi (erased 4092 ++ (word ++ erased 12288)))); room = 0; says = expected }
 
 -- an image of n bytes and A, on a chip of 32,768 bytes with its update area at 12,288
 abbrev pub run : ℕ → ℕ → Says → Row
 run n updateLength expected = record {
-  asks = λ rest. totalSays (totalAnswer (layoutOf 32768 12288 updateLength) n) (runOrders spi (layoutOf 32768 12288 updateLength) (replicate n 0));
+  asks = λ rest. (totalNumbers (totalAnswer (layoutOf 32768 12288 updateLength) n), length (runOrders spi (layoutOf 32768 12288 updateLength) (replicate n 0)) ∷ []);
   room = 0;
   says = expected;
 }

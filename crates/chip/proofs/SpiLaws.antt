@@ -9,7 +9,7 @@ use borrow.Author.Tests.{ltb-true, ltb-false, eq-eqb, eqb-true, eqb-false}
 use lib.Dec.{eqb, ltb}
 use lib.ListN.{length, getD, drop}
 use Rattle.framing.specs.Search.{syncBytes, beginsWith}
-use Rattle.framing.specs.Internal.{wordAt}
+use Rattle.framing.specs.Words.{wordAt}
 use Rattle.base.specs.Question.{ask}
 use Rattle.configreader.specs.Configreader.{readFrom, readChip, readAlone, listed}
 use Rattle.packets.specs.Trace.{contents}
@@ -17,12 +17,14 @@ use Rattle.bootreader.specs.Image.{imageWithin}
 use Rattle.chip.specs.Types.{Loaded, Accepted}
 use Rattle.bootreader.proofs.Laws.{alone-stays, accepted-reads}
 use Rattle.kind.proofs.Laws.{chip-length-range, update-place-range}
-use Rattle.configreader.proofs.Laws.{NoneIn, search-past, jumps-to, placed, placed-contents, ends-within}
+use Rattle.configreader.specs.Theorems.{NoneIn}
+use Rattle.configreader.proofs.Laws.{search-past, jumps-to, placed, placed-contents, ends-within}
 use Rattle.base.proofs.Laws.{false-true}
 use Rattle.framing.proofs.Laws.{differs-at, word-of}
 use Rattle.kind.specs.Layout.{segment, switchAt, goldenAt}
 use Rattle.kind.specs.Spi.{spi, spiOn, spiWarmBoot}
-use Rattle.chip.specs.Chip.{switchWord, goldenArea, WellFormed, LoadsAlone, Loads, ContainsAt, Lawful}
+use Rattle.chip.specs.Chip.{switchWord, goldenArea, WellFormed, LoadsAlone, Loads, ContainsAt}
+use Rattle.chip.specs.Theorems.{SpiLawful}
 use Rattle.flash.proofs.Laws.{span-at, span-length}
 use Rattle.chip.proofs.SwitchLaws.{on-bytes, off-no-sync, spi-stays-off}
 
@@ -220,7 +222,7 @@ module _ (updatePlace : ℕ) (chip : List ℕ) (formed : WellFormed spi updatePl
       whole = rw (reading, itself .reading) (placed-contents image chip updatePlace 0 (itself .sync) (itself .end) (itself .writes) false (itself .reading) fits same true)
 
 -- The SPI kind keeps the laws of a kind.
-pub spi-lawful : Lawful spi
+pub spi-lawful : SpiLawful
 unfolding beginsWith
 spi-lawful = record {
   four = refl;

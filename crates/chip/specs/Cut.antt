@@ -6,7 +6,7 @@ use lib.ListN.{length, getD}
 use Rattle.kind.specs.Layout.{segment}
 use Rattle.flash.specs.Flash.{span, BitwiseMix}
 
--- What may stand in the span of an erase or program afterwards, cut inside or called done, given what an obeying chip would hold there: in segment 0 a mixture, elsewhere any bytes.
+-- What may stand in the span of an erase or program afterwards, cut inside or called done, given what an obeying chip would hold there (or, where the premise is taken word for word, the bytes ordered): in segment 0 a mixture, elsewhere any bytes.
 pub record MayLeave (chip : List ℕ) (place : ℕ) (obeyed new : List ℕ) : Type 0 where
   pub fills : length new ≡ length obeyed
   pub bytes : (i : ℕ) → i < length new → getD new i 0 < 256

@@ -3,3 +3,5 @@ pub mod Types
 pub mod Cut
 pub mod Chip
 pub mod Switch
+-- What is proved of them, beside the contracts.
+pub mod Theorems

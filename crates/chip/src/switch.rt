@@ -1,7 +1,7 @@
 // The switch of a chip.
-ghost use mathlib.Core.Path.{_≡_};
+ghost use Rattle.base.specs.Answer.{Gives};
 ghost use Rattle.kind.specs.Spi.{spi};
-ghost use Rattle.chip.specs.Switch.{switchAnswer};
+ghost use Rattle.chip.specs.Switch.{switchNumbers, switchAnswer};
 use base::refusal;
 use kind::layout::chip_length_allowed;
 use kind::spi::Spi;
@@ -15,7 +15,7 @@ pub enum SwitchAnswer {
 
 // The switch of a chip's bytes: ON is the one word, and every other is OFF; or refusal 1.
 pub fn read(chip: &[u8]) -> SwitchAnswer
-    ensures { λ r. ⌜ r ≡ switchAnswer spi (now (chip .entry)) ⌝ }
+    ensures { λ r. ⌜ Gives switchNumbers r (switchAnswer spi (now (chip .entry))) ⌝ }
 {
     if !chip_length_allowed(chip.len()) {
         return SwitchAnswer::Refused {

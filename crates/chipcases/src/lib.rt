@@ -1,5 +1,7 @@
 // The cases of what loads: the calls on a chip's bytes and on an image by itself, each with its answer printed.
 // For the program above it alone: no more is proved here than that each call is safe and ends.
+ghost use Prim.Native.Nat.{_+_, _*_, _≤_};
+ghost use lib.ListN.{length};
 use bootreader::boot as loader;
 use bootreader::image;
 use caseanswers as say;
@@ -9,9 +11,13 @@ use caselines::SPI;
 use caselines::words;
 use chip::switch;
 use chip::switch::SwitchAnswer;
+use framing::words::word_at;
 use host::boot::tealsettle_boot;
 use host::boot::tealsettle_image_check;
-use imagereader::first_write;
+use imagereader::Packet;
+use imagereader::PacketAnswer;
+use imagereader::first_from;
+use imagereader::next_from;
 use packets::trace::WriteAnswer;
 use writes::cursor::Cursor;
 use writes::cursor::CursorStep;
@@ -84,6 +90,53 @@ fn all_writes(bytes: &[u8], cursor: Cursor) {
     }
 }
 
+// A packet's writes: its data words, one after the other.
+fn packet_writes(image: &[u8], packet: Packet)
+    requires { ⌜ packet .first + 4 * packet .count ≤ length (now image) ⌝ }
+{
+    let mut i = 0;
+    while i < packet.count {
+        let place = packet.first + 4 * i;
+        write(packet.register, word_at(image, place), place);
+        i += 1;
+    }
+}
+
+// A packet: register, place of the first data word, number of writes, place of the next; and the writes.
+fn packet(image: &[u8], packet: Packet)
+    requires { ⌜ packet .first + 4 * packet .count ≤ length (now image) ⌝ }
+{
+    say::word(words::PACKET);
+    say::number(packet.register as usize);
+    say::number(packet.first);
+    say::number(packet.count);
+    say::number(packet.next);
+    packet_writes(image, packet);
+}
+
+// What ends the packets of a reader.
+fn packets_end(answer: PacketAnswer) {
+    match answer {
+        PacketAnswer::Found(_) => {}
+        PacketAnswer::End => say::word(words::DONE),
+        PacketAnswer::Refused { number, place } => say::refused(number, place),
+    }
+}
+
+// All packets that a reader of an image gives. There are fewer of them than bytes.
+fn all_packets(image: &[u8]) {
+    let mut answer = first_from(image);
+    let mut i = 0;
+    while i <= image.len() {
+        let PacketAnswer::Found(one) = answer else {
+            return packets_end(answer);
+        };
+        packet(image, one);
+        answer = next_from(image, one.next);
+        i += 1;
+    }
+}
+
 fn listed(bytes: &[u8], listing: Listing) {
     match listing {
         Listing::Open(cursor) => all_writes(bytes, cursor),
@@ -111,6 +164,6 @@ pub fn call_image(case: Case, given: &[u8]) {
         words::CHECK => check(bytes),
         words::ITEM => written(image::write(bytes, case.n.h)),
         words::ITEMS => listed(bytes, image::writes(bytes)),
-        _ => written(first_write(bytes)),
+        _ => all_packets(bytes),
     }
 }

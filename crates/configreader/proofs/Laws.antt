@@ -1,22 +1,22 @@
 -- What crates above may count on of the reader, beside the contracts: locality and placement, what a search passes over, the jump through a header. Nothing above needs the reader's definitions opened.
 use Prim.Native.Nat.{ℕ, suc, _+_, _-_, _%_, _^_, _<_, _≤_}
 use mathlib.Core.Path.{_≡_, refl, sym, ap, ap₂, _∙_}
-use mathlib.Core.Bool.{Bool, true, false}
+use mathlib.Core.Bool.{Bool, false}
 use mathlib.Core.List.{List, [], _∷_, map}
 use native.Mathlib.Nat.{zero-add, add-assoc, mod-eq-of-lt}
 use native.Mathlib.Omega.{arith}
 use lib.ListN.{length, getD, drop, length-drop}
 use lib.Seq.{getD-drop}
-use Rattle.framing.specs.Search.{syncBytes, beginsWith, find}
-use Rattle.framing.specs.Words.{words}
-use Rattle.framing.specs.Internal.{wordAt}
+use Rattle.framing.specs.Search.{beginsWith, find}
+use Rattle.framing.specs.Words.{words, wordAt}
 use Rattle.base.specs.Question.{ask}
 use Rattle.packets.specs.Header.{registerOk, type1Of, headOf, effectOf}
 use Rattle.packets.specs.Trace.{other, header, modeOf, afterHeader, trace, finish, finishFrom, writesFrom, contents}
-use Rattle.configreader.specs.Configreader.{jump, readFrom, listed}
+use Rattle.configreader.specs.Configreader.{readAt, searchFrom, jump, readFrom, readAlone, listed}
+use Rattle.configreader.specs.Theorems.{Placement, Locality, twelveBytes, ShortestReading, Skipping, Jumping}
 use Rattle.configreader.specs.Types.{Found, SyncAt, NoSync, FinishEnded, FinishIprog, Write, Loaded}
 use Rattle.framing.proofs.Laws.{find-here, find-past, find-within, stands-at, words-cons, room}
-use Rattle.configreader.proofs.ReadingLaws.{read-ended, read-jump, search-found, search-none, jump-on, alone-parts}
+use Rattle.configreader.proofs.ReadingLaws.{Proper, read-ended, read-jump, search-found, search-none, jump-on, proper, alone-parts}
 use Rattle.configreader.proofs.PlacementLaws.{find-moved, lookedTo, movedFinish, finish-moved, ended-after}
 pub use Rattle.configreader.proofs.PlacementLaws.{movedWrite}
 pub use Rattle.configreader.proofs.ReadingLaws.{proper, alone-parts}
@@ -95,16 +95,34 @@ local s t from sync end writes jumped alone fits stands left after =
 pub ends-within : (s : List ℕ) (from sync end writes : ℕ) (jumped : Bool) → readFrom 0 jumped s from ≡ Loaded sync end writes jumped → end ≤ length s
 ends-within s from sync end writes jumped alone = ended-after s (sync + 4) end writes (alone-parts jumped s from sync end writes jumped alone .1) .1
 
--- NO SYNC WORD BEGINS at any of the k places from `at` on. (`differs-at` says where none does.)
-abbrev pub NoneIn : List ℕ → ℕ → ℕ → Type 0
-NoneIn t at k = (i : ℕ) → i < k → beginsWith syncBytes (drop (at + i) t) ≡ false
+-- The statements, from these.
+pub placement : Placement
+placement image bytes d from sync end writes jumped alone holds left after = (
+  placed image bytes d from sync end writes jumped alone (holds .fits) (holds .same) left after,
+  placed-contents image bytes d from sync end writes jumped alone (holds .fits) (holds .same) after,
+)
 
--- A SYNC WORD STANDS at a place.
-abbrev pub Stands : List ℕ → ℕ → Type 0
-Stands t at = (j : ℕ) → j < 4 → getD t (at + j) 0 ≡ getD syncBytes j 0
+pub locality : Locality
+locality = record { reads = local; ends = ends-within }
+
+-- From the last sync word to the end there are 12 bytes at least, and there is a reading that has no more.
+twelve-least : (left : ℕ) (jumped : Bool) (bytes : List ℕ) (from sync end writes : ℕ) (after : Bool) → from ≤ length bytes → readFrom left jumped bytes from ≡ Loaded sync end writes after →
+    (sync + 12 ≤ end) × (end ≤ length bytes)
+unfolding Proper
+twelve-least left jumped bytes from sync end writes after l e =
+    let p = rw e at (proper left jumped bytes from l) in
+    let w = ended-after bytes (sync + 4) end writes (p .1) in
+    (omega arith, w .1)
+
+twelve-reads : readAlone twelveBytes ≡ Loaded 0 12 1 false
+unfolding searchFrom readAt find beginsWith words trace finish afterHeader modeOf headOf type1Of ask registerOk effectOf
+twelve-reads = refl
+
+pub shortest-reading : ShortestReading
+shortest-reading = record { none-shorter = twelve-least; of-twelve = twelve-reads }
 
 -- SKIPPING: a search passes over places where no sync word begins.
-pub search-past : (left : ℕ) (jumped : Bool) (t : List ℕ) (at k : ℕ) → at + k ≤ length t → NoneIn t at k → readFrom left jumped t at ≡ readFrom left jumped t (at + k)
+pub search-past : Skipping
 search-past left jumped t at k l h = go (find (drop (at + k) t) (at + k)) refl
   where
     go : (f : Found) → find (drop (at + k) t) (at + k) ≡ f → readFrom left jumped t at ≡ readFrom left jumped t (at + k)
@@ -131,9 +149,7 @@ unfolding trace finish afterHeader headOf type1Of ask registerOk effectOf modeOf
 header-jumps to p rest = refl
 
 -- JUMP: the first sync word, then the words 30020001, a byte's place, 30008001 and 0000000F: the search goes on at that place.
-pub jumps-to : (left : ℕ) (jumped : Bool) (t : List ℕ) (from k to : ℕ) → NoneIn t from k → Stands t (from + k) → from + k + 20 ≤ length t →
-    wordAt t (from + k + 4) ≡ 0x30020001 → wordAt t (from + k + 8) ≡ to → wordAt t (from + k + 12) ≡ 0x30008001 → wordAt t (from + k + 16) ≡ 0x0000000F →
-    to < length t → to < 2 ^ 29 → readFrom (suc left) jumped t from ≡ readFrom left true t to
+pub jumps-to : Jumping
 jumps-to left jumped t from k to none here l a b c d far near =
     let e : find (drop from t) from ≡ SyncAt (from + k) = find-past t k from (omega arith) none ∙ find-here (drop (from + k) t) (from + k) (stands-at t (from + k) (omega arith) here) in
     let p₁ : from + k + 4 + 4 ≡ from + k + 8 = omega arith in

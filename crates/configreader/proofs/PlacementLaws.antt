@@ -10,7 +10,7 @@ use lib.ListN.{length, getD, drop}
 use Rattle.framing.specs.Search.{syncBytes, beginsWith, find}
 use Rattle.framing.specs.Words.{words}
 use Rattle.packets.specs.Header.{headOf, effectOf}
-use Rattle.packets.specs.Trace.{other, Mode, header, payload, modeOf, afterHeader, Trace, trace, lastWbstar, finish, listOf, finishFrom, writesFrom}
+use Rattle.packets.specs.Trace.{Before, other, Mode, header, payload, modeOf, afterHeader, Trace, trace, lastWbstar, finish, listOf, finishFrom, writesFrom}
 use Rattle.configreader.specs.Types.{SyncAt, Effect, GoesOn, Desync, EffectIprog, Finish, FinishEnded, FinishIprog, FinishFault, FinishShort, Write}
 use Rattle.base.proofs.Laws.{false-of}
 use Rattle.framing.proofs.Laws.{starts-at, starts-all, find-here, find-next, find-within, word-of, word-after, room}
@@ -163,10 +163,23 @@ finish-moved s t d from f e h l same = trace-moved (words (drop from s)) (words 
           (sym (word-after s from i ∙ word-of s (from + 4 * i) (let r = room s from in omega (arith, within)))),
     )
 
--- packets that end take one word at least, and only what there is
-pub ended-after : (s : List ℕ) (from end writes : ℕ) → finishFrom s from ≡ FinishEnded end writes → (from + 4 ≤ end) × (end ≤ length s)
-unfolding lookedTo
+-- A reading that ends from a header has read a data word after it.
+ended-words : (ws : List ℕ) (p : ℕ) (before : Before) (n wbstar end writes : ℕ) → finish (trace ws p (header before)) n wbstar ≡ FinishEnded end writes →
+    (p + 8 ≤ end) × (end ≤ p + 4 * length ws)
+unfolding finish lookedTo
+ended-words [] p before n wbstar end writes e = let q = rw (trace-none p (header before)) at e in let z : _≡_ {A = ℕ} 0 1 = cc in absurd (omega arith)
+ended-words (x ∷ ws) p before n wbstar end writes e = go (afterHeader (headOf x) before) refl
+  where
+    go : (o : Option Mode) → afterHeader (headOf x) before ≡ o → (p + 8 ≤ end) × (end ≤ p + 4 * length (x ∷ ws))
+    go none a = let q = rw (trace-fault x ws p before a) at e in let z : _≡_ {A = ℕ} 0 1 = cc in absurd (omega arith)
+    go (some m) a =
+        let w : (p + 4 + 4 ≤ end) × (end ≤ p + 4 + 4 * length ws) =
+        looked ws (p + 4) m n wbstar (FinishEnded end writes) (rw (trace-header x ws p before m a) at e) (λ q. let z : _≡_ {A = ℕ} 0 1 = cc in omega arith) in
+        (omega arith, omega arith)
+
+-- Packets that end take two words at least, and only what there is.
+pub ended-after : (s : List ℕ) (from end writes : ℕ) → finishFrom s from ≡ FinishEnded end writes → (from + 8 ≤ end) × (end ≤ length s)
 ended-after s from end writes e =
-    let l : (from + 4 ≤ end) × (end ≤ from + 4 * length (words (drop from s))) =
-    looked (words (drop from s)) from (header other) 0 0 (FinishEnded end writes) e (λ q. let z : _≡_ {A = ℕ} 0 1 = cc in omega arith) in
-    let r = room s from in omega arith
+    let l = ended-words (words (drop from s)) from other 0 0 end writes e in
+    let r = room s from in
+    (omega arith, omega arith)

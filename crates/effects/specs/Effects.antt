@@ -1,5 +1,5 @@
 -- What an order does to a chip's bytes. Document 01, "A chip's life".
-use Prim.Native.Nat.{ℕ, _+_, _-_, _/_, _<_, _≤_}
+use Prim.Native.Nat.{ℕ, _+_, _-_, _/_, _%_, _<_, _≤_}
 use mathlib.Core.Path.{_≡_}
 use mathlib.Core.Logic.{_⊎_}
 use mathlib.Core.List.{List, [], _∷_}
@@ -25,11 +25,11 @@ orderLength (look place bytes) = length bytes
 abbrev pub InReach : Layout → ℕ → ℕ → Type 0
 InReach layout place count = (place + count ≤ segment) ⊎ ((layout .«update_place» ≤ place) × (place + count ≤ layout .«update_place» + layout .«update_length»))
 
--- A program has a byte at least and stays inside one page.
-unfoldable pub OnePage : Order → Type 0
-OnePage (erase place count) = Unit {0}
-OnePage (program place bytes) = (1 ≤ length bytes) × ((place + length bytes - 1) / page ≡ place / page)
-OnePage (look place bytes) = Unit {0}
+-- What a chip takes: an erase of one segment, at a multiple of its length; a program of 1 to 256 bytes inside one page. A look reads any bytes.
+unfoldable pub WellPlaced : Order → Type 0
+WellPlaced (erase place count) = (count ≡ segment) × (place % segment ≡ 0)
+WellPlaced (program place bytes) = (1 ≤ length bytes) × (length bytes ≤ page) × ((place + length bytes - 1) / page ≡ place / page)
+WellPlaced (look place bytes) = Unit {0}
 
 -- A chip obeys when an erase sets its span to FF and a program clears exactly the bits that are 0 in its bytes: what then stands in the span. A look changes nothing.
 unfoldable pub obeyedSpan : Order → List ℕ → List ℕ

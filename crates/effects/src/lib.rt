@@ -34,7 +34,7 @@ pub fn state_after(begun: State, cut: usize) -> State
     state
 }
 
-// The chip obeys the current order.
+// The chip obeys the current order. Every order's span lies within the chip, so none is refused.
 fn obey_order(chip: &mut [u8], state: State, image: &[u8])
     requires { ⌜ (fits state (length (now image)) ≡ true) × (running state ≡ true) × (state .layout .«chip_length» ≡ length (now chip)) ⌝ }
     ensures { λ r. ⌜ now (chip .exit) ≡ obeyed (currentOrder spi state (now (image .entry))) (now (chip .entry)) ⌝ }
@@ -42,11 +42,11 @@ fn obey_order(chip: &mut [u8], state: State, image: &[u8])
     let operation = current_operation(state);
     match operation {
         Operation::Erase { place, length } => {
-            erase(chip, place, length);
+            let _ = erase(chip, place, length);
         }
         Operation::Program { place, length } => {
             let bytes = current_bytes(state, image);
-            program(chip, place, &bytes[..length]);
+            let _ = program(chip, place, &bytes[..length]);
         }
         Operation::Look {
             place: _,

@@ -7,8 +7,7 @@ use mathlib.Core.List.{List}
 use native.Mathlib.Omega.{arith}
 use lib.ListN.{length, getD, drop}
 use Rattle.base.specs.Question.{ask}
-use Rattle.framing.specs.Words.{words}
-use Rattle.framing.specs.Internal.{wordAt}
+use Rattle.framing.specs.Words.{words, wordAt}
 use Rattle.framing.proofs.Laws.{room}
 use Rattle.packets.specs.Header.{headOf, effectOf, type1Of}
 use Rattle.packets.specs.Trace.{opened, modeOf, afterHeader}

@@ -4,7 +4,7 @@ use mathlib.Core.Path.{_≡_}
 use mathlib.Core.Option.{some}
 use mathlib.Core.List.{List}
 use lib.ListN.{length}
-use Rattle.framing.specs.Internal.{wordAt}
+use Rattle.framing.specs.Words.{wordAt}
 use Rattle.packets.specs.Header.{headOf}
 use Rattle.packets.specs.Trace.{other, modeOf, afterHeader}
 use Rattle.scanner.specs.Scan.{beforeOf, scanOf, AtHeader}

@@ -2,7 +2,8 @@
 // what that chip loads.
 ghost use mathlib.Core.Path.{_≡_};
 ghost use lib.ListN.{length};
-ghost use Rattle.report.specs.Refusal.{written};
+ghost use Rattle.base.specs.Answer.{Gives};
+ghost use Rattle.report.specs.Refusal.{reportNumbers, written};
 ghost use Rattle.base.specs.Output.{frontFilled};
 ghost use Rattle.filereport.specs.Filereport.{builtReport, fileAnswer, fileOutput};
 use builder::BuildAnswer;
@@ -40,7 +41,7 @@ fn built_report(golden: &[u8], out: &mut [u8]) -> ReportAnswer
 // The report of an image file's text. A refusal of the text or of its image is a report too; what is
 // refused, with 19, is a buffer that the report does not fit into.
 pub fn report(text: &[u8], out: &mut [u8]) -> ReportAnswer
-    ensures answer { λ r. ⌜ r ≡ fileAnswer (now (text .entry)) (length (now (out .entry))) ⌝ }
+    ensures answer { λ r. ⌜ Gives reportNumbers r (fileAnswer (now (text .entry)) (length (now (out .entry)))) ⌝ }
     ensures output { λ r. ⌜ now (out .exit) ≡ fileOutput (now (text .entry)) (now (out .entry)) ⌝ }
 {
     if LONGEST < text.len() {

@@ -8,7 +8,8 @@ use lib.Bits.{bitAnd}
 use lib.ListN.{length, getD, take, drop, length-append, length-replicate, getD-replicate, length-drop, drop-of-length-le, List·getD-append}
 use lib.Seq.{paste, take-all, take-length, drop-drop, length-take-le, getD-take, getD-drop, getD-append-add, take-append-le, drop-append-le}
 use Rattle.base.specs.Question.{ask}
-use Rattle.flash.specs.Flash.{erased, span, overwrite, overwriteInRange, cleared}
+use Rattle.flash.specs.Flash.{erased, span, overwrite, overwriteInRange, flashAnswer, cleared}
+use Rattle.flash.specs.Types.{FlashDone}
 
 pub span-at : (chip : List ℕ) (place count i : ℕ) → i < count → getD (span chip place count) i 0 ≡ getD chip (place + i) 0
 span-at chip place count i h = getD-take count (drop place chip) i 0 h ∙ getD-drop place chip i 0
@@ -100,3 +101,8 @@ cleared-at (o ∷ old) (b ∷ bytes) (suc i) e h = cleared-at old bytes i (omega
 -- FF stands at every place of an erased span.
 pub erased-at : (count i : ℕ) → i < count → getD (erased count) i 0 ≡ 0xFF
 erased-at count i h = getD-replicate count i 0xFF 0 h
+
+-- A span that lies within the chip is not refused.
+pub in-range-done : (chipLength place count : ℕ) → place + count ≤ chipLength → FlashDone ≡ flashAnswer chipLength place count
+unfolding flashAnswer ask
+in-range-done chipLength place count fits = rw (le-leb (place + count) chipLength fits) refl

@@ -6,7 +6,10 @@ use mathlib.Core.List.{List, [], _∷_, _++_}
 use lib.Bits.{bitAnd}
 use lib.Dec.{leb}
 use lib.ListN.{length, getD, take, drop, replicate}
+use Rattle.base.specs.Answer.{Numbered, result, refusal}
 use Rattle.base.specs.Question.{ask}
+use Rattle.base.specs.Refusal.{noRoom}
+use Rattle.flash.specs.Types.{FlashAnswer, FlashDone, FlashRefused}
 
 -- `count` bytes FF: an erase sets its span to them
 abbrev pub erased : ℕ → List ℕ
@@ -23,6 +26,15 @@ overwrite chip place bytes = take place chip ++ (bytes ++ drop (place + length b
 -- The same where a span of `count` bytes lies within the chip; else the chip as it was.
 unfoldable pub overwriteInRange : List ℕ → ℕ → ℕ → List ℕ → List ℕ
 overwriteInRange chip place count bytes = ask (leb (place + count) (length chip)) chip (overwrite chip place bytes)
+
+-- in numbers: what is done has no values
+unfoldable pub flashNumbers : FlashAnswer → Numbered
+flashNumbers FlashDone = result []
+flashNumbers (FlashRefused number place) = refusal number place
+
+-- What `erase`, `program` and `overwrite` answer, by the chip's length, the place and how many bytes: a span that does not lie within the chip is refused with 19 at 0 (question 13).
+unfoldable pub flashAnswer : ℕ → ℕ → ℕ → FlashAnswer
+flashAnswer chipLength place count = ask (leb (place + count) chipLength) (FlashRefused noRoom 0) FlashDone
 
 -- A program can only clear bits: an obeying chip clears exactly those that are 0 in its bytes.
 unfoldable pub cleared : List ℕ → List ℕ → List ℕ

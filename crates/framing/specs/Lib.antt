@@ -2,5 +2,3 @@
 pub mod Types
 pub mod Search
 pub mod Words
--- What only the contracts of functions that are no public calls cite. No promise rests on it.
-pub mod Internal

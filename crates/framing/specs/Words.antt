@@ -1,6 +1,7 @@
 -- Bytes to words. Document 01, "How the configuration reader reads".
 use Prim.Native.Nat.{ℕ, _+_, _*_}
 use mathlib.Core.List.{List, [], _∷_}
+use lib.ListN.{getD, drop}
 
 -- Then come 32-bit words, high byte first; bytes that make no whole word at the end are left out.
 unfoldable pub words : List ℕ → List ℕ
@@ -9,3 +10,7 @@ words (a ∷ []) = []
 words (a ∷ b ∷ []) = []
 words (a ∷ b ∷ c ∷ []) = []
 words (a ∷ b ∷ c ∷ d ∷ bytes) = ((a * 256 + b) * 65536 + (c * 256 + d)) ∷ words bytes
+
+-- the word at a place
+abbrev pub wordAt : List ℕ → ℕ → ℕ
+wordAt bytes place = getD (words (drop place bytes)) 0 0

@@ -2,8 +2,7 @@
 ghost use mathlib.Core.Path.{_≡_};
 ghost use Prim.Native.Nat.{_+_, _<_, _≤_};
 ghost use lib.ListN.{length, drop};
-ghost use Rattle.framing.specs.Words.{words};
-ghost use Rattle.framing.specs.Internal.{wordAt};
+ghost use Rattle.framing.specs.Words.{words, wordAt};
 
 // How many whole words there are from `at` on.
 pub fn words_from(s: &[u8], at: usize) -> usize

@@ -7,7 +7,7 @@ use Rattle.host.specs.Types.{Layout, State, ReplyRefused, FinishedRefuse
 use Rattle.kind.specs.Spi.{spi}
 use Rattle.starts.specs.Starts.{startAnswer, totalAnswer}
 use Rattle.updater.specs.Run.{orderRefused, orderAnswer, replyAnswer, finishedAnswer}
-use Rattle.runresults.specs.Run.{startResult, totalResult, orderNumbers, replyResult, finishedResult}
+use Rattle.runresults.specs.Run.{startResult, totalResult, orderResult, replyResult, finishedResult}
 
 -- `tealsettle_start`
 abbrev pub startCall : ℕ → Layout → List ℕ → TealsettleStart
@@ -19,7 +19,7 @@ totalCall kind layout n = totalResult (askKind kind (TotalRefused badChipLength 
 
 -- `tealsettle_order`
 abbrev pub orderCall : ℕ → State → List ℕ → TealsettleOrder
-orderCall kind state image = orderNumbers (askKind kind (orderRefused badState) (orderAnswer spi state image))
+orderCall kind state image = orderResult (askKind kind (orderRefused badState) (orderAnswer spi state image))
 
 -- `tealsettle_reply`
 abbrev pub replyCall : ℕ → State → List ℕ → ℕ → List ℕ → TealsettleReply

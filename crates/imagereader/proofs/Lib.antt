@@ -1,2 +1,4 @@
 pub mod Laws
+mod PacketLaws
+mod ReaderLaws
 mod Shared

@@ -1,7 +1,9 @@
 -- A chip's fixed numbers, its layout, and the questions about lengths and places. Document 01, "The chip" and "Questions at the door".
 use Prim.Native.Nat.{ℕ, _+_, _%_}
 use mathlib.Core.Bool.{Bool, false}
+use mathlib.Core.List.{[]}
 use lib.Dec.{eqb, leb, ltb}
+use Rattle.base.specs.Answer.{Numbered, result, refusal}
 use Rattle.base.specs.Question.{ask}
 use Rattle.base.specs.Refusal.{badChipLength, badUpdatePlace, badUpdateLength}
 use Rattle.kind.specs.Types.{Layout, LayoutAnswer, LayoutAllowed, LayoutRefused}
@@ -55,6 +57,11 @@ askLayout refused layout rest =
     ask (chipLengthAllowed (layout .«chip_length»)) (refused badChipLength 0)
     (ask (updatePlaceAllowed (layout .«chip_length») (layout .«update_place»)) (refused badUpdatePlace 0)
     (ask (updateLengthAllowed (layout .«chip_length») (layout .«update_place») (layout .«update_length»)) (refused badUpdateLength 0) rest))
+
+-- in numbers: a layout that is allowed has no values
+unfoldable pub layoutNumbers : LayoutAnswer → Numbered
+layoutNumbers LayoutAllowed = result []
+layoutNumbers (LayoutRefused number place) = refusal number place
 
 -- `Layout::check`: questions 1 to 3
 unfoldable pub layoutAnswer : Layout → LayoutAnswer

@@ -1,6 +1,7 @@
 // A chip's layout, and the questions about lengths and places: 1 to 3 of a layout, 4 of an image.
 ghost use mathlib.Core.Path.{_≡_};
-ghost use Rattle.kind.specs.Layout.{chipLengthAllowed, updatePlaceAllowed, updateLengthAllowed, imageLengthAllowed, layoutAnswer};
+ghost use Rattle.base.specs.Answer.{Gives};
+ghost use Rattle.kind.specs.Layout.{chipLengthAllowed, updatePlaceAllowed, updateLengthAllowed, imageLengthAllowed, layoutNumbers, layoutAnswer};
 use crate::spi::Spi;
 use base::refusal;
 
@@ -72,7 +73,7 @@ pub fn image_length_allowed(longest: usize, length: usize) -> bool
 impl Layout {
     // Whether a chip can have this layout: questions 1 to 3, in order; or refusal 1 to 3.
     pub fn check(self) -> LayoutAnswer
-        ensures { λ r. ⌜ r ≡ layoutAnswer self ⌝ }
+        ensures { λ r. ⌜ Gives layoutNumbers r (layoutAnswer self) ⌝ }
     {
         if !chip_length_allowed(self.chip_length) {
             return LayoutAnswer::Refused {

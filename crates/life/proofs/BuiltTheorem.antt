@@ -18,8 +18,10 @@ use Rattle.life.specs.Types.{Layout, Built}
 use Rattle.chip.proofs.Laws.{spi-lawful}
 use Rattle.builder.proofs.Laws.{questions, built-well-formed, built-off, built-loads}
 use Rattle.life.specs.Life.{fresh, Event, Valid, life, Claim, LifeBegins}
-use Rattle.life.specs.Built.{Boots, BuiltDemand3}
+use Rattle.life.specs.AsOrdered.{LiterallyValid}
+use Rattle.life.specs.Built.{Boots, BuiltDemand3, BuiltAsOrdered}
 use Rattle.life.proofs.LifeTheorem.{Reads, claims}
+use Rattle.life.proofs.AsOrderedTheorem.{as-ordered}
 
 -- What loads by the reading loads by the answers of the calls, and the answers tell jumped from not.
 loads-boots : (chip image : List ℕ) (place : ℕ) (jumped : Bool) → chipLengthAllowed (length chip) ≡ true → 1 ≤ length image → length image ≤ longestImage → Loads spi chip image place jumped → Boots spi chip image place jumped
@@ -58,7 +60,7 @@ module _ (layout : Layout) (golden : List ℕ) (room : ℕ) (built : buildAnswer
   off : spi .isOn (switchWord chip) ≡ false
   off = built-off layout golden room built
 
-  -- A built chip is good and OFF, and no run is open.
+  -- A built chip is well-formed and OFF, and no run is open.
   begins : LifeBegins spi (layout .«update_place») (fresh chip)
   begins = record { closed = refl; unseen = refl; formed = formed; image = λ on. absurd (false-true (sym off ∙ on)) }
 
@@ -85,5 +87,11 @@ module _ (layout : Layout) (golden : List ℕ) (room : ℕ) (built : buildAnswer
   claimed : (events : List Event) → Valid spi (layout .«update_place») (fresh chip) events → Claim spi (Boots spi) (layout .«update_place») golden (life spi (fresh chip) events)
   claimed = claims spi spi-lawful (layout .«update_place») (fresh chip) begins (Boots spi) golden boots-reads golden-boots update-boots
 
+  claimed-as-ordered : (events : List Event) → LiterallyValid spi (layout .«update_place») (fresh chip) events → Claim spi (Boots spi) (layout .«update_place») golden (life spi (fresh chip) events)
+  claimed-as-ordered events literal = claimed events (as-ordered spi spi-lawful .valid (layout .«update_place») (fresh chip) begins events literal)
+
 pub built-demand3 : BuiltDemand3
 built-demand3 = claimed
+
+pub built-as-ordered : BuiltAsOrdered
+built-as-ordered = claimed-as-ordered

@@ -1,8 +1,10 @@
 pub mod ReplyLaws
+pub mod AreaLaws
 pub mod OrderListTheorem
 pub mod EventLaws
 pub mod LifeLaws
 pub mod ObeyLaws
+pub mod AsOrderedTheorem
 pub mod DamageLaws
 pub mod ProgressLaws
 pub mod UncutLaws

@@ -26,9 +26,9 @@ use Rattle.updater.specs.State.{after, ended, running, fits}
 use Rattle.comparison.specs.Comparison.{padded, differs}
 use Rattle.effects.specs.Effects.{obeyedSpan, leaves}
 use Rattle.starts.specs.Starts.{startAnswer}
-use Rattle.updater.specs.Run.{stopOf, replyAnswer}
-use Rattle.life.specs.OrderList.{Replies, Moved}
-use Rattle.life.specs.Life.{Run, World, found, starts, carries, replies, cuts, Event, afterStart, agrees, lookSeen, orderedImage, carryOut, afterReply, orderOfRun, onRun, next, AdmissibleStart, AdmissibleSpan, AdmissibleOrder, TrueRead, TruthfulReply, AdmissibleReply, Admissible, Valid, life, isOn, OrderedImageInPlace}
+use Rattle.updater.specs.Run.{replyAnswer}
+use Rattle.life.specs.OrderList.{Replies, Moved, StopsIn}
+use Rattle.life.specs.Life.{Run, World, found, starts, carries, replies, cuts, Event, afterStart, agrees, lookSeen, orderedImage, carryOut, afterReply, orderOfRun, onRun, next, AdmissibleStart, AdmissibleSpan, AdmissibleOrder, TrueRead, TruthfulReply, AdmissibleReply, Admissible, Valid, life, isOn, OrderedImageInPlace, LifeBegins}
 use Rattle.orders.proofs.Laws.{phases, area-segments, image-pages, page-at}
 use Rattle.updater.proofs.Laws.{Numbers, numbers-image, fits-says, running-says, after-index, after-phase, last-or-not, after-fits, first-fits, current-order}
 use Rattle.starts.proofs.Laws.{opened}
@@ -47,7 +47,7 @@ Seen run w count = (j : ℕ) → j < count → getD (w .chip) (run .state .layou
 abbrev looksBy : Run → ℕ
 looksBy run = run .state .index + elim (run .carried) [ true ↦ 1 | false ↦ 0 ]
 
--- What an open run knows in a phase: until all of segment 0 has been looked at, how many looks there can have been; from then on that the switch word is erased; in phase 4 what it has seen; and all of it until ON is ordered.
+-- What an open run knows in a phase: until all of segment 0 has been looked at, how many looks there can have been; from then on that the switch word is erased; in phase 4 what it has seen; all of it until ON is ordered, and from then on that its image is the ordered one.
 unfoldable pub Stage : ℕ → Run → World → Type 0
 Stage phase run w =
     byPhase phase
@@ -56,18 +56,19 @@ Stage phase run w =
     (Erased w)
     (Erased w)
     (Erased w × Seen run w (page * run .state .index))
-    (run .carried ≡ false → Erased w × Seen run w (run .state .layout .«update_length»))
-    (Unit {0})
+    ((run .carried ≡ false → Erased w × Seen run w (run .state .layout .«update_length»)) × (run .carried ≡ true → w .image ≡ some (run .image)))
+    (w .image ≡ some (run .image))
     (Unit {0})
 
 module _ (kind : Kind) (updatePlace : ℕ) where
-  -- An open run: its state fits, it has the chip's layout and an accepted image, and knows what its phase says.
+  -- An open run: its state fits, it has the chip's layout and an accepted image, and knows what its phase says. One that has ended with outcome 0 has its switch ON and its image ordered.
   pub record Holds (run : Run) (w : World) : Type 0 where
     pub fitted : running (run .state) ≡ true → fits (run .state) (length (run .image)) ≡ true
     pub long : run .state .layout .«chip_length» ≡ length (w .chip)
     pub place : run .state .layout .«update_place» ≡ updatePlace
     pub alone : LoadsAlone kind (run .image)
     pub stage : Stage (run .state .phase) run w
+    pub done : run .state .phase ≡ 7 → run .state .outcome ≡ 0 → (isOn kind w ≡ true) × (w .image ≡ some (run .image))
 
   -- THE INVARIANT. The chip is well-formed and its golden area the first one; if it is ON, the ordered image stands at U; while the last run has found and not ordered, the switch word is erased.
   pub record Invariant (firstGolden : List ℕ) (w : World) : Type 0 where
@@ -134,6 +135,10 @@ agrees-read place bytes chip h e = go (differs place (span chip place (length by
     go none q r = none-same place (span chip place (length bytes)) bytes (span-length chip place (length bytes) h) q
     go (some address) q r = absurd (false-true r)
 
+-- No stop has number 0.
+stop-number : (phase number : ℕ) → StopsIn phase number → number ≡ 0 → ⊥
+stop-number phase number s z = ⊎-elim (λ a. let n = a .1 in omega arith) (λ t. ⊎-elim (λ a. let n = a .1 in omega arith) (λ a. let n = a .1 in omega arith) t) s
+
 module _ (kind : Kind) (lawful : Lawful kind) (updatePlace : ℕ) (firstGolden : List ℕ) where
   -- The world after an order of a phase.
   abbrev carriedRun : Run → Run
@@ -151,14 +156,14 @@ module _ (kind : Kind) (lawful : Lawful kind) (updatePlace : ℕ) (firstGolden :
   carried-out order phase left run w o p = rw (o, p) refl
 
   module _ (w : World) (inv : Invariant kind updatePlace firstGolden w) (run : Run) (holds : Holds kind updatePlace run w) (ran : running (run .state) ≡ true) (left : List ℕ) where
-    fitted : fits (run .state) (length (run .image)) ≡ true
+    pub fitted : fits (run .state) (length (run .image)) ≡ true
     fitted = holds .fitted ran
 
     numbers : Numbers (run .state .layout) (run .state .«image_length»)
     numbers = fits-says (run .state) (length (run .image)) fitted .numbers
 
     -- The layout's numbers, on this chip.
-    bounds : (12288 ≤ updatePlace) × (updatePlace + run .state .layout .«update_length» ≤ length (w .chip)) × (run .state .layout .«update_length» % 4096 ≡ 0)
+    pub bounds : (12288 ≤ updatePlace) × (updatePlace + run .state .layout .«update_length» ≤ length (w .chip)) × (run .state .layout .«update_length» % 4096 ≡ 0)
     bounds =
         let a = update-length-range (run .state .layout .«chip_length») (run .state .layout .«update_place») (run .state .layout .«update_length») (numbers .spans) in
         let u = update-place-range (run .state .layout .«chip_length») (run .state .layout .«update_place») (numbers .starts) in
@@ -169,13 +174,13 @@ module _ (kind : Kind) (lawful : Lawful kind) (updatePlace : ℕ) (firstGolden :
     index : run .state .index < count (run .state .layout) (run .state .«image_length») (run .state .phase)
     index = running-says (run .state) (length (run .image)) fitted ran .1
 
-    stage-at : (phase : ℕ) → run .state .phase ≡ phase → Stage phase run w
+    pub stage-at : (phase : ℕ) → run .state .phase ≡ phase → Stage phase run w
     stage-at phase p = subst (λ (q : ℕ). Stage q run w) p (holds .stage)
 
     index-at : (phase : ℕ) → run .state .phase ≡ phase → run .state .index < count (run .state .layout) (run .state .«image_length») phase
     index-at phase p = subst (λ (q : ℕ). run .state .index < count (run .state .layout) (run .state .«image_length») q) p index
 
-    order-at : (phase : ℕ) → run .state .phase ≡ phase → orderOfRun kind run ≡ orderOf kind (run .state .layout) (run .image) phase (run .state .index)
+    pub order-at : (phase : ℕ) → run .state .phase ≡ phase → orderOfRun kind run ≡ orderOf kind (run .state .layout) (run .image) phase (run .state .index)
     order-at phase p = current-order kind (run .state) (run .image) fitted ran ∙ ap (λ (q : ℕ). orderOf kind (run .state .layout) (run .image) q (run .state .index)) p
 
     -- the world with the order carried out, and these bytes, looks, flag and ordered image
@@ -190,6 +195,7 @@ module _ (kind : Kind) (lawful : Lawful kind) (updatePlace : ℕ) (firstGolden :
       place = holds .place;
       alone = holds .alone;
       stage = subst (λ (q : ℕ). Stage q (carriedRun run) after) (sym p) stage;
+      done = λ q z. absurd (let l = ltb-true (run .state .phase) 7 ran in omega arith);
     }
 
     -- PHASE 0: an erase of segment 0. The switch can only go off.
@@ -276,11 +282,11 @@ module _ (kind : Kind) (lawful : Lawful kind) (updatePlace : ℕ) (firstGolden :
         contained = stands-stay (w .chip) (overwrite (w .chip) switchAt left) updatePlace (run .image) stays (λ i a. outside i (let b = bounds in omega arith)) contained;
       };
       found = λ f o. absurd (false-true (sym o));
-      run = still-holds (worldAfter (overwrite (w .chip) switchAt left) (w .looks) true (some (run .image))) 5 p stays (λ q. absurd (false-true (sym q)));
+      run = still-holds (worldAfter (overwrite (w .chip) switchAt left) (w .looks) true (some (run .image))) 5 p stays (λ q. absurd (false-true (sym q)), λ q. refl);
     }
       where
         known : Erased w × Seen run w (run .state .layout .«update_length»)
-        known = (stage-at 5 p) once
+        known = stage-at 5 p .0 once
 
         old-length : length (span (w .chip) switchAt (length (kind .on))) ≡ length (kind .on)
         old-length = span-length (w .chip) switchAt (length (kind .on)) (let l = chip-length-range (length (w .chip)) (inv .formed .long) in let f = lawful .four in omega arith)
@@ -329,7 +335,7 @@ module _ (kind : Kind) (lawful : Lawful kind) (updatePlace : ℕ) (firstGolden :
     looks-at-switch p once false e = looks-on 1 (w .looks) p (inv .found) (let s = before-look p once in omega arith)
 
     -- A page of the image ends within the update area.
-    page-within : run .state .phase ≡ 3 → page * run .state .index + length (pageOf (run .image) (run .state .index)) ≤ run .state .layout .«update_length»
+    pub page-within : run .state .phase ≡ 3 → page * run .state .index + length (pageOf (run .image) (run .state .index)) ≤ run .state .layout .«update_length»
     page-within p =
         let i = image-pages (run .state .layout) (run .state .«image_length») (run .state .index) (index-at 3 p) in
         let n = numbers-image (run .state .layout) (run .state .«image_length») numbers in
@@ -370,7 +376,7 @@ module _ (kind : Kind) (lawful : Lawful kind) (updatePlace : ℕ) (firstGolden :
         (stage-at 3 p) (λ e. e)))
         (λ p. comes (look (run .state .layout .«update_place» + page * run .state .index) (padded page (pageOf (run .image) (run .state .index)))) 4 (order-at 4 p) p (looks-on 4 (w .looks) p (inv .found) (stage-at 4 p)))
         (λ p. comes (program switchAt (kind .on)) 5 (order-at 5 p) p (switches-on p (may .once) (left-by (program switchAt (kind .on)) (order-at 5 p))))
-        (λ p. comes (look switchAt (kind .on)) 6 (order-at 6 p) p (looks-on 6 (w .looks) p (inv .found) tt))
+        (λ p. comes (look switchAt (kind .on)) 6 (order-at 6 p) p (looks-on 6 (w .looks) p (inv .found) (stage-at 6 p)))
         (run .state .phase) (running-says (run .state) (length (run .image)) fitted ran .0) refl
       where
         left-by : (o : Order) → orderOfRun kind run ≡ o → AdmissibleSpan o (w .chip) left
@@ -399,15 +405,16 @@ module _ (kind : Kind) (lawful : Lawful kind) (updatePlace : ℕ) (firstGolden :
       run = h;
     }
 
-    -- A stop ends the run.
-    stopped-holds : (outcome : ℕ) → Holds kind updatePlace (runAt (ended (run .state) outcome)) (worldAt (ended (run .state) outcome))
+    -- A stop ends the run, with an outcome that is not 0.
+    stopped-holds : (outcome : ℕ) → (outcome ≡ 0 → ⊥) → Holds kind updatePlace (runAt (ended (run .state) outcome)) (worldAt (ended (run .state) outcome))
     unfolding Stage byPhase
-    stopped-holds outcome = record {
+    stopped-holds outcome other = record {
       fitted = λ r. absurd (let l = ltb-true 7 7 r in omega arith);
       long = holds .long;
       place = holds .place;
       alone = holds .alone;
       stage = tt;
+      done = λ q z. absurd (other z);
     }
 
     -- A reply that moves it on: its order was carried out, and a look read what is expected.
@@ -468,7 +475,7 @@ module _ (kind : Kind) (lawful : Lawful kind) (updatePlace : ℕ) (firstGolden :
           (λ p m. stage-of 3 p)
           (λ p m. (stage-of 4 p .0, one-more p))
           (λ p m. absurd (let l : s .index + 1 < 1 = m in omega arith))
-          (λ p m. tt)
+          (λ p m. stage-of 6 p)
           (s .phase) (ltb-true (s .phase) 7 (moves .ran)) refl h
 
       phase-stage : count (s .layout) (s .«image_length») (s .phase) ≤ s .index + 1 → Stage (s .phase + 1) (runAt nextPhase) (worldAt nextPhase)
@@ -484,22 +491,34 @@ module _ (kind : Kind) (lawful : Lawful kind) (updatePlace : ℕ) (firstGolden :
           page-erased (w .chip) (omega arith) (rw last at (page-blank p)))
           (λ p m. stage-of 2 p)
           (λ p m. (stage-of 3 p, λ j b. absurd (omega arith)))
-          (λ p m. λ once. (stage-of 4 p .0, λ j b. one-more p j (let l : s .layout .«update_length» / page ≤ s .index + 1 = m in let a = update-length-range (s .layout .«chip_length») (s .layout .«update_place») (s .layout .«update_length») (fits-says s (length (run .image)) fit .numbers .spans) in omega arith)))
-          (λ p m. tt)
+          (λ p m. (λ once. (stage-of 4 p .0, λ j b. one-more p j (let l : s .layout .«update_length» / page ≤ s .index + 1 = m in let a = update-length-range (s .layout .«chip_length») (s .layout .«update_place») (s .layout .«update_length») (fits-says s (length (run .image)) fit .numbers .spans) in omega arith)), λ c. absurd (false-true c)))
+          (λ p m. stage-of 5 p .1 (honest .carried))
           (λ p m. tt)
           (s .phase) (ltb-true (s .phase) 7 (moves .ran)) refl h
+
+      -- The look of phase 6 has read ON.
+      read-on : s .phase ≡ 6 → isOn kind w ≡ true
+      unfolding orderOf byPhase
+      read-on p =
+          let four = lawful .four in
+          let e : switchWord (w .chip) ≡ kind .on = rw four at (was-read switchAt (kind .on) (order-of 6 p)) in
+          ap (kind .isOn) e ∙ lawful .on-on
+
+      ended-done : s .phase + 1 ≡ 7 → (isOn kind w ≡ true) × (w .image ≡ some (run .image))
+      unfolding Stage byPhase
+      ended-done q = let p : s .phase ≡ 6 = omega arith in (read-on p, stage-of 6 p)
 
       next-fits : fits (after s) (length (run .image)) ≡ true
       next-fits = after-fits s (length (run .image)) fit (moves .ran)
 
       moved-on : Invariant kind updatePlace firstGolden (worldAt (after s))
       moved-on = ⊎-elim
-          (λ h. at nextIndex (after-index s h) refl (index-stage h))
-          (λ h. at nextPhase (after-phase s h) refl (phase-stage h))
+          (λ h. at nextIndex (after-index s h) refl (index-stage h) (λ q. absurd (let l = ltb-true (s .phase) 7 (moves .ran) in omega arith)))
+          (λ h. at nextPhase (after-phase s h) refl (phase-stage h) ended-done)
           (last-or-not s)
         where
-          at : (t : State) → after s ≡ t → t .layout ≡ s .layout → Stage (t .phase) (runAt t) (worldAt t) → Invariant kind updatePlace firstGolden (worldAt (after s))
-          at t e l stage =
+          at : (t : State) → after s ≡ t → t .layout ≡ s .layout → Stage (t .phase) (runAt t) (worldAt t) → (t .phase ≡ 7 → (isOn kind w ≡ true) × (w .image ≡ some (run .image))) → Invariant kind updatePlace firstGolden (worldAt (after s))
+          at t e l stage done =
               subst (λ (x : State). Invariant kind updatePlace firstGolden (worldAt x)) (sym e)
               (goes-on t
               (record {
@@ -508,6 +527,7 @@ module _ (kind : Kind) (lawful : Lawful kind) (updatePlace : ℕ) (firstGolden :
                 place = ap (λ (x : Layout). x .«update_place») l ∙ holds .place;
                 alone = holds .alone;
                 stage = stage;
+                done = λ q z. done q;
               }))
 
     replied : (image : List ℕ) (replyKind : ℕ) (bytes : List ℕ) (answer : ReplyAnswer) → replyAnswer kind (run .state) image replyKind bytes ≡ answer → AdmissibleReply answer kind image bytes run w → Invariant kind updatePlace firstGolden (afterReply answer run w)
@@ -515,7 +535,7 @@ module _ (kind : Kind) (lawful : Lawful kind) (updatePlace : ℕ) (firstGolden :
     replied image replyKind bytes (ReplyRefused number place state) e may = inv
     replied image replyKind bytes (Stopped number place state) e may =
         let h = halted kind (run .state) image replyKind bytes number place state e in
-        subst (λ (t : State). Invariant kind updatePlace firstGolden (worldAt t)) (sym (h .comes)) (goes-on (ended (run .state) (stopOf (run .state .phase))) (stopped-holds (stopOf (run .state .phase))))
+        subst (λ (t : State). Invariant kind updatePlace firstGolden (worldAt t)) (sym (h .comes)) (goes-on (ended (run .state) number) (stopped-holds number (stop-number (run .state .phase) number (h .stop))))
     replied image replyKind bytes (Next state) e may =
         let own : replyAnswer kind (run .state) (run .image) replyKind bytes ≡ Next state = subst (λ (i : List ℕ). replyAnswer kind (run .state) i replyKind bytes ≡ Next state) (may .same) e in
         let m = moved kind (run .state) (run .image) replyKind bytes state own in
@@ -540,11 +560,12 @@ module _ (kind : Kind) (lawful : Lawful kind) (updatePlace : ℕ) (firstGolden :
           place = may .1;
           alone = o .alone;
           stage = refl;
+          done = λ q z. absurd (omega arith);
         };
       })
 
   -- EVERY EVENT that keeps the premises keeps the invariant,
-  keeps : (w : World) → Invariant kind updatePlace firstGolden w → (event : Event) → Admissible kind updatePlace w event → Invariant kind updatePlace firstGolden (next kind w event)
+  pub keeps : (w : World) → Invariant kind updatePlace firstGolden w → (event : Event) → Admissible kind updatePlace w event → Invariant kind updatePlace firstGolden (next kind w event)
   unfolding next Admissible onRun
   keeps w inv (starts layout image) may = started w inv layout image (startAnswer kind layout image) refl may
   keeps w inv (carries left) may = go (w .run) may (inv .run)
@@ -571,3 +592,14 @@ module _ (kind : Kind) (lawful : Lawful kind) (updatePlace : ℕ) (firstGolden :
   unfolding Valid life
   lives [] w inv valid = inv
   lives (event ∷ events) w inv valid = lives events (next kind w event) (keeps w inv event (valid .0)) (valid .1)
+
+-- A list may start where the invariant holds.
+pub begins-hold : (kind : Kind) (updatePlace : ℕ) (w : World) → LifeBegins kind updatePlace w → Invariant kind updatePlace (goldenArea updatePlace (w .chip)) w
+unfolding onRun
+begins-hold kind updatePlace w begins = record {
+  formed = begins .formed;
+  golden = refl;
+  image = begins .image;
+  found = λ f o. absurd (let e = eqb-true (w .looks) 16 f in let z = begins .unseen in omega arith);
+  run = subst (λ (r : Option Run). onRun r (Unit {0}) (λ run. Holds kind updatePlace run w)) (sym (begins .closed)) tt;
+}

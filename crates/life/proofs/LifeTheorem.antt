@@ -4,8 +4,6 @@ use mathlib.Core.Path.{_≡_, refl, sym, ap, subst, _∙_}
 use mathlib.Core.Bool.{Bool, true, false}
 use mathlib.Core.Option.{Option, some}
 use mathlib.Core.List.{List}
-use native.Mathlib.Omega.{arith}
-use borrow.Author.Tests.{eqb-true}
 use lib.ListN.{length}
 use Rattle.life.specs.Types.{Loaded, Layout, State, Started}
 use Rattle.base.proofs.Laws.{false-true}
@@ -13,10 +11,10 @@ use Rattle.kind.specs.Layout.{goldenAt}
 use Rattle.kind.specs.Kind.{Kind}
 use Rattle.chip.specs.Chip.{goldenArea, Loads, WellFormed, ContainsAt, Lawful}
 use Rattle.starts.specs.Starts.{startAnswer}
-use Rattle.life.specs.Life.{Run, World, onRun, Event, Valid, life, isOn, uncut, Loading, Updates, OrderedLoads, Claim, LifeBegins, Demand3}
+use Rattle.life.specs.Life.{Run, World, onRun, Event, Valid, life, isOn, uncut, Loading, Updates, OrderedLoads, DoneLoads, Claim, LifeBegins, Demand3}
 use Rattle.effects.specs.Effects.{Bytes}
 use Rattle.starts.proofs.Laws.{opened}
-use Rattle.life.proofs.LifeLaws.{Holds, Invariant, lives}
+use Rattle.life.proofs.LifeLaws.{Holds, Invariant, lives, begins-hold}
 use Rattle.life.proofs.UncutLaws.{uncut-run}
 
 -- A chip's reading is Loaded, jumped or not.
@@ -41,21 +39,14 @@ module _ (kind : Kind) (lawful : Lawful kind) (updatePlace : ℕ) (first : World
     (reads : (chip image : List ℕ) (place : ℕ) (jumped : Bool) → loads chip image place jumped → Reads kind chip jumped)
     (golden-loads : (chip : List ℕ) → WellFormed kind updatePlace chip → Loads kind chip (goldenArea updatePlace (first .chip)) goldenAt false → loads chip golden goldenAt false)
     (update-loads : (chip image : List ℕ) → WellFormed kind updatePlace chip → 1 ≤ length image → ContainsAt chip updatePlace image → Loads kind chip image updatePlace true → loads chip image updatePlace true) where
-  abbrev updateLength : List ℕ
-  updateLength = goldenArea updatePlace (first .chip)
+  abbrev firstGolden : List ℕ
+  firstGolden = goldenArea updatePlace (first .chip)
 
-  invariant : Invariant kind updatePlace updateLength first
-  unfolding onRun
-  invariant = record {
-    formed = begins .formed;
-    golden = refl;
-    image = begins .image;
-    found = λ f o. absurd (let e = eqb-true (first .looks) 16 f in let z = begins .unseen in omega arith);
-    run = subst (λ (r : Option Run). onRun r (Unit {0}) (λ run. Holds kind updatePlace run first)) (sym (begins .closed)) tt;
-  }
+  invariant : Invariant kind updatePlace firstGolden first
+  invariant = begins-hold kind updatePlace first begins
 
-  module _ (w : World) (inv : Invariant kind updatePlace updateLength w) where
-    off-loads : isOn kind w ≡ false → Loads kind (w .chip) updateLength goldenAt false
+  module _ (w : World) (inv : Invariant kind updatePlace firstGolden w) where
+    off-loads : isOn kind w ≡ false → Loads kind (w .chip) firstGolden goldenAt false
     off-loads off = subst (λ (g : List ℕ). Loads kind (w .chip) g goldenAt false) (inv .golden) (lawful .off-loads updatePlace (w .chip) (inv .formed) off)
 
     on-loads : (on : isOn kind w ≡ true) → Loads kind (w .chip) (inv .image on .image) updatePlace true
@@ -78,21 +69,31 @@ module _ (kind : Kind) (lawful : Lawful kind) (updatePlace : ℕ) (first : World
       where
         go : (b : Bool) → isOn kind w ≡ b → isOn kind w ≡ true
         go true e = e
-        go false e = absurd (jumped-or-not kind (w .chip) (loads-reads kind (w .chip) updateLength goldenAt false (off-loads e)) (reads (w .chip) image place true l))
+        go false e = absurd (jumped-or-not kind (w .chip) (loads-reads kind (w .chip) firstGolden goldenAt false (off-loads e)) (reads (w .chip) image place true l))
 
   -- One more run: the list with it is itself one that keeps the premises, so what is ON loads what was ordered, and that is its image.
-  again : (w : World) → Invariant kind updatePlace updateLength w → (layout : Layout) (image : List ℕ) (state : State) → startAnswer kind layout image ≡ Started state → layout .«chip_length» ≡ length (w .chip) →
+  again : (w : World) → Invariant kind updatePlace firstGolden w → (layout : Layout) (image : List ℕ) (state : State) → startAnswer kind layout image ≡ Started state → layout .«chip_length» ≡ length (w .chip) →
       layout .«update_place» ≡ updatePlace → Bytes image → Updates kind loads updatePlace layout image w
   again w inv layout image state e l u bytes =
       let o = opened kind lawful layout image state e in
       let r = uncut-run kind lawful updatePlace layout image (o .numbers) (o .alone) bytes w l u in
       let es = uncut kind layout image (w .chip) in
       let after = life kind w es in
-      let s = ordered-loads after (lives kind lawful updatePlace updateLength es w inv (r .valid)) (r .reached .on) in
+      let s = ordered-loads after (lives kind lawful updatePlace firstGolden es w inv (r .valid)) (r .reached .on) in
       let same : s .image ≡ image = some-same (sym (s .ordered) ∙ r .reached .ordered) in
       record { valid = r .valid; state = r .reached .state; loaded = subst (λ (i : List ℕ). loads (after .chip) i updatePlace true) same (s .loaded) }
 
-  claim : (w : World) → Invariant kind updatePlace updateLength w → Claim kind loads updatePlace golden w
+  -- A run that has ended with outcome 0: what is ON loads what was ordered, and that is its image.
+  done-loads : (w : World) → Invariant kind updatePlace firstGolden w → (run : Run) → w .run ≡ some run → run .state .phase ≡ 7 → run .state .outcome ≡ 0 → DoneLoads kind loads updatePlace run w
+  unfolding onRun
+  done-loads w inv run opened-run at-end zero =
+      let h : Holds kind updatePlace run w = subst (λ (r : Option Run). onRun r (Unit {0}) (λ run. Holds kind updatePlace run w)) opened-run (inv .run) in
+      let d = h .done at-end zero in
+      let s = ordered-loads w inv (d .0) in
+      let same : s .image ≡ run .image = some-same (sym (s .ordered) ∙ d .1) in
+      record { on = d .0; ordered = d .1; loaded = subst (λ (i : List ℕ). loads (w .chip) i updatePlace true) same (s .loaded) }
+
+  claim : (w : World) → Invariant kind updatePlace firstGolden w → Claim kind loads updatePlace golden w
   claim w inv = record {
     off = λ off. golden-loads (w .chip) (inv .formed) (off-loads w inv off);
     off-only = off-only w inv;
@@ -100,10 +101,11 @@ module _ (kind : Kind) (lawful : Lawful kind) (updatePlace : ℕ) (first : World
     on-only = on-only w inv;
     found-off = λ f o. ap (kind .isOn) (inv .found f o) ∙ lawful .erased-off;
     again = again w inv;
+    done-loads = done-loads w inv;
   }
 
   pub claims : (events : List Event) → Valid kind updatePlace first events → Claim kind loads updatePlace golden (life kind first events)
-  claims events valid = claim (life kind first events) (lives kind lawful updatePlace updateLength events first invariant valid)
+  claims events valid = claim (life kind first events) (lives kind lawful updatePlace firstGolden events first invariant valid)
 
 -- DEMAND 3 of any kind that keeps its laws.
 pub demand3 : (kind : Kind) → Lawful kind → Demand3 kind

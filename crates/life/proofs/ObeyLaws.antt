@@ -51,12 +51,16 @@ module _ (chip : List ℕ) (place count : ℕ) (fits : place + count ≤ length 
 over-ones : (byte : ℕ) → byte < 256 → bitAnd 0xFF byte ≡ byte
 over-ones byte h = and-comm 0xFF byte ∙ and-mask byte 8 ∙ mod-eq-of-lt h
 
+-- What a program leaves is as long as its bytes.
+pub program-length : (chip : List ℕ) (place : ℕ) (bytes : List ℕ) → place + length bytes ≤ length chip → length (afterProgram chip place bytes) ≡ length bytes
+program-length chip place bytes fits = cleared-length (span chip place (length bytes)) bytes (span-length chip place (length bytes) fits)
+
 module _ (chip : List ℕ) (place : ℕ) (bytes : List ℕ) (fits : place + length bytes ≤ length chip) (small : (i : ℕ) → i < length bytes → getD bytes i 0 < 256) where
   old-length : length (span chip place (length bytes)) ≡ length bytes
   old-length = span-length chip place (length bytes) fits
 
   new-length : length (afterProgram chip place bytes) ≡ length bytes
-  new-length = cleared-length (span chip place (length bytes)) bytes old-length
+  new-length = program-length chip place bytes fits
 
   new-within : place + length (afterProgram chip place bytes) ≤ length chip
   new-within = let e = new-length in omega (arith, fits)
@@ -65,6 +69,11 @@ module _ (chip : List ℕ) (place : ℕ) (bytes : List ℕ) (fits : place + leng
   new-at i h =
       cleared-at (span chip place (length bytes)) bytes i old-length h
       ∙ ap (λ (o : ℕ). bitAnd o (getD bytes i 0)) (span-at chip place (length bytes) i h)
+
+  pub program-over-erased : ((i : ℕ) → i < length bytes → getD chip (place + i) 0 ≡ 0xFF) → afterProgram chip place bytes ≡ bytes
+  program-over-erased blank = ext-getD 0 (afterProgram chip place bytes) bytes new-length (λ i h.
+      let k : i < length bytes = (let e = new-length in omega arith) in
+      new-at i k ∙ ap (λ (o : ℕ). bitAnd o (getD bytes i 0)) (blank i k) ∙ over-ones (getD bytes i 0) (small i k))
 
   pub program-obeys : Obeys (program place bytes) chip
   unfolding AdmissibleSpan obeyedSpan leaves Replies replyKindOf bytesRead

@@ -1,6 +1,7 @@
 -- Replies: question 9 both ways, and what a reply that is taken says.
 use Prim.Native.Nat.{ℕ, zero, suc, _+_, _-_, _<_}
 use mathlib.Core.Path.{_≡_, refl, sym, ap, subst, _∙_}
+use mathlib.Core.Logic.{inl, inr}
 use mathlib.Core.Bool.{Bool, true, false}
 use mathlib.Core.Option.{Option, some, none}
 use mathlib.Core.List.{List, [], _∷_}
@@ -12,14 +13,16 @@ use Rattle.base.specs.Question.{ask}
 use Rattle.base.proofs.Laws.{asked}
 use Rattle.kind.specs.Kind.{Kind}
 use Rattle.comparison.proofs.Laws.{differs-none, none-same}
-use Rattle.orders.specs.Orders.{Order, erase, program, look}
+use Rattle.orders.specs.Table.{byPhase}
+use Rattle.orders.specs.Orders.{Order, erase, program, look, orderOf}
 use Rattle.updater.specs.State.{after, ended, running, fits, currentOrder}
 use Rattle.comparison.specs.Comparison.{differs}
 use Rattle.orders.specs.Replies.{done, read, asksFor}
 use Rattle.updater.specs.Run.{stopOf, compared, repliedTo, replyAnswer}
-use Rattle.life.specs.OrderList.{Replies, FirstDiffers, Moved, Halted}
+use Rattle.life.specs.OrderList.{Replies, FirstDiffers, Moved, StopsIn, Halted}
 use Rattle.life.specs.Types.{State, Next, Stopped, ReplyRefused}
-use Rattle.orders.proofs.Laws.{asked-for}
+use Rattle.orders.proofs.Laws.{phases, asked-for}
+use Rattle.updater.proofs.Laws.{running-says, current-order}
 
 -- Where bytes differ, the address is that of the first byte that does.
 pub some-differs : (place : ℕ) (bytes expected : List ℕ) (address : ℕ) → differs place bytes expected ≡ some address → FirstDiffers place bytes expected address
@@ -109,7 +112,24 @@ module _ (kind : Kind) (state : State) (image : List ℕ) (replyKind : ℕ) (byt
           let d = asked-for read (length expected) replyKind (length bytes) (c .0) in
           to-look place expected w f r (d .0) (d .1) (differs place bytes expected) refl (c .1)
 
-  pub halted : (number address : ℕ) (next : State) → replyAnswer kind state image replyKind bytes ≡ Stopped number address next → Halted kind state image bytes number address next
+  -- An order that is a look: one of phase 1, 4 or 6.
+  pub look-phase : (place : ℕ) (expected : List ℕ) → fits state (length image) ≡ true → running state ≡ true → currentOrder kind state image ≡ look place expected → StopsIn (state .phase) (stopOf (state .phase))
+  unfolding stopOf orderOf byPhase
+  look-phase place expected f r o =
+      phases (λ (phase : ℕ). orderOf kind (state .layout) image phase (state .index) ≡ look place expected → StopsIn phase (stopOf phase))
+      (λ q. no-look q)
+      (λ q. inl (refl, refl))
+      (λ q. no-look q)
+      (λ q. let z : _≡_ {A = ℕ} 0 1 = cc in absurd (omega arith))
+      (λ q. inr (inl (refl, refl)))
+      (λ q. let z : _≡_ {A = ℕ} 0 1 = cc in absurd (omega arith))
+      (λ q. inr (inr (refl, refl)))
+      (state .phase) (running-says state (length image) f r .0) (sym (current-order kind state image f r) ∙ o)
+    where
+      no-look : {A : Type 0} {at count : ℕ} → erase at count ≡ look place expected → A
+      no-look q = let z : _≡_ {A = ℕ} 0 1 = cc in absurd (omega arith)
+
+  pub halted : (number address : ℕ) (next : State) → replyAnswer kind state image replyKind bytes ≡ Stopped number address next → Halted kind state image replyKind bytes number address next
   unfolding replyAnswer repliedTo compared
   halted number address next e =
       let a = asked _ _ _ _ e (refused-stopped 7 0 number address next) in
@@ -119,10 +139,10 @@ module _ (kind : Kind) (state : State) (image : List ℕ) (replyKind : ℕ) (byt
       not-done : {A : Type 0} → ask (asksFor done 0 replyKind (length bytes)) (ReplyRefused 9 0 state) (Next (after state)) ≡ Stopped number address next → A
       not-done q = let c = asked _ _ _ _ q (refused-stopped 9 0 number address next) in let z : _≡_ {A = ℕ} 0 1 = (let k = c .1 in cc) in absurd (omega arith)
 
-      to-look : (place : ℕ) (expected : List ℕ) → currentOrder kind state image ≡ look place expected → fits state (length image) ≡ true → running state ≡ true → length bytes ≡ length expected →
-          (d : Option ℕ) → differs place bytes expected ≡ d → compared d state ≡ Stopped number address next → Halted kind state image bytes number address next
-      to-look place expected w f r l none h q = let z : _≡_ {A = ℕ} 0 1 = cc in absurd (omega arith)
-      to-look place expected w f r l (some found) h q =
+      to-look : (place : ℕ) (expected : List ℕ) → currentOrder kind state image ≡ look place expected → fits state (length image) ≡ true → running state ≡ true → replyKind ≡ read → length bytes ≡ length expected →
+          (d : Option ℕ) → differs place bytes expected ≡ d → compared d state ≡ Stopped number address next → Halted kind state image replyKind bytes number address next
+      to-look place expected w f r p l none h q = let z : _≡_ {A = ℕ} 0 1 = cc in absurd (omega arith)
+      to-look place expected w f r p l (some found) h q =
           let s = stopped-same q in
           record {
             fitted = f;
@@ -130,29 +150,30 @@ module _ (kind : Kind) (state : State) (image : List ℕ) (replyKind : ℕ) (byt
             place = place;
             expected = expected;
             looked = w;
+            said = p;
             long = l;
             differ = some-differs place bytes expected address (h ∙ ap (λ (x : ℕ). some x) (s .1));
-            stop = sym (s .0);
-            comes = sym (s .2);
+            stop = subst (StopsIn (state .phase)) (s .0) (look-phase place expected f r w);
+            comes = sym (s .2) ∙ ap (ended state) (s .0);
           }
 
-      go : (o : Order) → currentOrder kind state image ≡ o → fits state (length image) ≡ true → running state ≡ true → repliedTo o state replyKind bytes ≡ Stopped number address next → Halted kind state image bytes number address next
+      go : (o : Order) → currentOrder kind state image ≡ o → fits state (length image) ≡ true → running state ≡ true → repliedTo o state replyKind bytes ≡ Stopped number address next → Halted kind state image replyKind bytes number address next
       go (erase place count) w f r q = not-done q
       go (program place contents) w f r q = not-done q
       go (look place expected) w f r q =
           let c = asked _ _ _ _ q (refused-stopped 9 0 number address next) in
           let d = asked-for read (length expected) replyKind (length bytes) (c .0) in
-          to-look place expected w f r (d .1) (differs place bytes expected) refl (c .1)
+          to-look place expected w f r (d .0) (d .1) (differs place bytes expected) refl (c .1)
 
   -- And the other way: bytes that are not those expected are a stop,
   pub halts : (place : ℕ) (expected : List ℕ) → fits state (length image) ≡ true → running state ≡ true → currentOrder kind state image ≡ look place expected → length bytes ≡ length expected → (bytes ≡ expected → ⊥) →
-      (address : ℕ) × (replyAnswer kind state image read bytes ≡ Stopped (stopOf (state .phase)) address (ended state (stopOf (state .phase))))
+      (number : ℕ) × (address : ℕ) × StopsIn (state .phase) number × (replyAnswer kind state image read bytes ≡ Stopped number address (ended state number))
   unfolding replyAnswer repliedTo compared ask
   halts place expected f r w l other = go (differs place bytes expected) refl
     where
-      go : (d : Option ℕ) → differs place bytes expected ≡ d → (address : ℕ) × (replyAnswer kind state image read bytes ≡ Stopped (stopOf (state .phase)) address (ended state (stopOf (state .phase))))
+      go : (d : Option ℕ) → differs place bytes expected ≡ d → (number : ℕ) × (address : ℕ) × StopsIn (state .phase) number × (replyAnswer kind state image read bytes ≡ Stopped number address (ended state number))
       go none h = absurd (other (none-same place bytes expected l h))
-      go (some address) h = (address, rw (f, r, w, for-asked read (length expected) read (length bytes) refl l, h) refl)
+      go (some address) h = (stopOf (state .phase), address, look-phase place expected f r w, rw (f, r, w, for-asked read (length expected) read (length bytes) refl l, h) refl)
 
   -- and the reply that the order asks for moves the run on.
   replied-moves : (o : Order) → Replies o replyKind bytes → repliedTo o state replyKind bytes ≡ Next (after state)

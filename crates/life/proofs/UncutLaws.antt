@@ -1,15 +1,15 @@
 -- A run on a chip that obeys, as events. Uncut it keeps the premises, ends in phase 7 with outcome 0, and leaves the switch ON, its own image being the ordered one; cut, it leaves what the bench leaves. Of any kind.
 use Prim.Native.Nat.{ℕ, zero, suc, _+_, _<_, _≤_}
-use mathlib.Core.Path.{_≡_, refl, sym, ap, subst, _∙_}
+use mathlib.Core.Path.{_≡_, refl, sym, ap, ap₂, subst, _∙_}
 use mathlib.Core.Logic.{⊎-elim}
 use mathlib.Core.Bool.{Bool, true, false}
 use mathlib.Core.Option.{Option, some}
-use mathlib.Core.List.{List, [], _∷_}
+use mathlib.Core.List.{List, [], _∷_, _++_, append-nil}
 use native.Mathlib.Omega.{arith}
-use native.Mathlib.Nat.{zero-add}
 use borrow.Author.Tests.{ltb-false, eqb-false}
 use lib.Dec.{eqb}
-use lib.ListN.{length, drop, take}
+use lib.ListN.{length, drop, take, length-drop, drop-of-length-le}
+use lib.Seq.{take-all}
 use Rattle.kind.specs.Kind.{Kind}
 use Rattle.chip.specs.Chip.{LoadsAlone, Lawful}
 use Rattle.life.specs.Types.{Layout, State, ReplyAnswer, Next, StartAnswer, Started}
@@ -22,11 +22,13 @@ use Rattle.updater.specs.Run.{replyAnswer}
 use Rattle.bench.specs.Bench.{cutAllowed, cutIn}
 use Rattle.life.specs.BenchLife.{cutEvents, benchEvents}
 use Rattle.life.specs.Life.{Run, World, Event, starts, carries, replies, afterStart, orderedImage, carryOut, afterReply, onRun, next, AdmissibleStart, TrueRead, AdmissibleReply, Admissible, Valid, life, isOn, replyKindOf, bytesRead, obeying, uncut}
-use Rattle.updater.proofs.Laws.{Numbers, running-says, after-index, after-phase, last-or-not, after-fits, after-position, position-running, position-ended, first-fits, current-order, orders-left, orders-ended}
+use Rattle.updater.proofs.Laws.{Numbers, running-says, after-index, after-phase, last-or-not, after-fits, after-position, position-running, first-fits, current-order, orders-left, orders-ended}
 use Rattle.starts.proofs.Laws.{starts as start-accepted}
 use Rattle.life.proofs.ReplyLaws.{moves}
 use Rattle.life.proofs.ObeyLaws.{Obeys}
+use Rattle.effects.specs.Progress.{stateAfter}
 use Rattle.effects.proofs.Laws.{order-within}
+use Rattle.orders.proofs.Laws.{orders-length}
 use Rattle.life.proofs.DamageLaws.{damage-may}
 use Rattle.life.proofs.ProgressLaws.{Progress, Advances, Step, advances, ends-on}
 
@@ -74,10 +76,6 @@ module _ (kind : Kind) (lawful : Lawful kind) (updatePlace : ℕ) (layout : Layo
   abbrev world : List ℕ → State → Bool → ℕ → Bool → Option (List ℕ) → World
   world chip state carried looks ordered last = record { chip = chip; run = some (record { state = state; image = image; carried = carried }); looks = looks; ordered = ordered; image = last }
 
-  -- the events of the orders from a position on
-  abbrev eventsFrom : ℕ → List ℕ → List Event
-  eventsFrom place chip = obeying image (drop place (orders kind layout image)) chip
-
   abbrev Ends : World → List Event → Type 0
   Ends w events = Leads kind updatePlace (Finished kind layout image) w events
 
@@ -114,10 +112,6 @@ module _ (kind : Kind) (lawful : Lawful kind) (updatePlace : ℕ) (layout : Layo
       subst (λ (q : ℕ). Reached q i chip last → Ends (world chip (at q i) false looks ordered last) []) (sym p)
       (subst (λ (j : ℕ). Reached 7 j chip last → Ends (world chip (at 7 j) false looks ordered last) []) (sym z) (finished chip looks ordered last))
       reached
-
-  no-events : (phase i : ℕ) (chip : List ℕ) → fits (at phase i) (length image) ≡ true → running (at phase i) ≡ false → eventsFrom (position (at phase i)) chip ≡ []
-  unfolding obeying
-  no-events phase i chip e r = ap (λ (o : List Order). obeying image o chip) (orders-ended kind (at phase i) image e r)
 
   -- Before its end the current order advances the chip, and so the run comes further.
   module _ (phase i : ℕ) (chip : List ℕ) (last : Option (List ℕ)) (reached : Reached phase i chip last) (runs : running (at phase i) ≡ true) where
@@ -165,16 +159,10 @@ module _ (kind : Kind) (lawful : Lawful kind) (updatePlace : ℕ) (layout : Layo
         (λ h. further-at (phase + 1) 0 (after-phase (at phase i) h) (omega arith) (λ m. (omega arith, refl)) (advance .last h))
         (last-or-not (at phase i))
 
-    -- The order, obeyed, and its reply are the events that come first,
-    first-events : eventsFrom (position (at phase i)) chip ≡
-        carries (obeyedSpan (order phase i) chip) ∷ replies image (replyKindOf (order phase i)) (bytesRead (order phase i) then-chip) ∷ eventsFrom (position (at phase i) + 1) then-chip
-    unfolding obeying
-    first-events = ap (λ (o : List Order). obeying image o chip) (orders-left kind (at phase i) image (reached .fitted) runs)
-
     moved : replyAnswer kind (at phase i) image (replyKindOf (order phase i)) (bytesRead (order phase i) then-chip) ≡ Next (after (at phase i))
     moved = moves kind (at phase i) image (replyKindOf (order phase i)) (bytesRead (order phase i) then-chip) (reached .fitted) runs (obeys .replied)
 
-    -- and they move the run on.
+    -- Its order, obeyed, and its true reply move the run on.
     order-first : (goal : World → Type 0) (looks : ℕ) (ordered : Bool) (events : List Event) →
         ((looks : ℕ) (ordered : Bool) → Leads kind updatePlace goal (world then-chip (after (at phase i)) false looks ordered then-image) events) →
         Leads kind updatePlace goal (world chip (at phase i) false looks ordered last)
@@ -196,44 +184,53 @@ module _ (kind : Kind) (lawful : Lawful kind) (updatePlace : ℕ) (layout : Layo
         done : World
         done = carryOut (order phase i) (obeyedSpan (order phase i) chip) (record { state = at phase i; image = image; carried = false }) (world chip (at phase i) false looks ordered last)
 
-    -- So the run finishes if it does from there.
-    order-finishes : (left : ℕ) → position (at phase i) + suc left ≡ total layout (length image) →
-        ((p j looks : ℕ) (ordered : Bool) → Reached p j then-chip then-image → position (at p j) + left ≡ total layout (length image) →
-        Ends (world then-chip (at p j) false looks ordered then-image) (eventsFrom (position (at p j)) then-chip)) →
-        (looks : ℕ) (ordered : Bool) → Ends (world chip (at phase i) false looks ordered last) (eventsFrom (position (at phase i)) chip)
-    order-finishes left e rest looks ordered =
-        subst (Ends (world chip (at phase i) false looks ordered last)) (sym first-events)
-        (order-first (Finished kind layout image) looks ordered (eventsFrom (position (at phase i) + 1) then-chip)
-        (λ looks ordered.
-        subst (λ (s : State). Ends (world then-chip s false looks ordered then-image) (eventsFrom (position (at phase i) + 1) then-chip)) (sym (f .comes))
-        (subst (λ (n : ℕ). Ends (world then-chip (at (f .then-phase) (f .then-index)) false looks ordered then-image) (eventsFrom n then-chip)) one-on
-        (rest (f .then-phase) (f .then-index) looks ordered (f .reached) (omega (arith, one-on))))))
-      where
-        f : Further phase i then-chip then-image
-        f = further
+  -- WHERE SOME OF THE ORDERS LEFT LEAD: k of them, or all, each obeyed and with its true reply.
+  record Came (k : ℕ) (left : List Order) (from : State) (chip : List ℕ) (last : Option (List ℕ)) (phase i : ℕ) : Type 0 where
+    reached : Reached phase i chip last
+    state : at phase i ≡ stateAfter (length (take k left)) from
+    rest : drop k left ≡ drop (position (at phase i)) (orders kind layout image)
 
-        one-on : position (at (f .then-phase) (f .then-index)) ≡ position (at phase i) + 1
-        one-on = ap position (sym (f .comes)) ∙ after-position (at phase i) (length image) (reached .fitted) runs
+  -- What leads on from there leads on from before those orders.
+  abbrev LeadsOn : ℕ → List Order → State → List ℕ → Option (List ℕ) → Type 1
+  LeadsOn k left from chip last =
+      (goal : World → Type 0) (events : List Event) →
+      ((phase i looks : ℕ) (ordered : Bool) (image : Option (List ℕ)) → Came k left from (obeyedAll (take k left) chip) image phase i → Leads kind updatePlace goal (world (obeyedAll (take k left) chip) (at phase i) false looks ordered image) events) →
+      (looks : ℕ) (ordered : Bool) → Leads kind updatePlace goal (world chip from false looks ordered last) (obeying image (take k left) chip ++ events)
 
-  -- By the number of orders left: the run finishes.
-  finishes : (left phase i : ℕ) (chip : List ℕ) (looks : ℕ) (ordered : Bool) (last : Option (List ℕ)) → Reached phase i chip last → position (at phase i) + left ≡ total layout (length image) →
-      Ends (world chip (at phase i) false looks ordered last) (eventsFrom (position (at phase i)) chip)
-  finishes zero phase i chip looks ordered last reached e = go (running (at phase i)) refl
-    where
-      go : (b : Bool) → running (at phase i) ≡ b → Ends (world chip (at phase i) false looks ordered last) (eventsFrom (position (at phase i)) chip)
-      go true r = absurd (let p = position-running (at phase i) (length image) (reached .fitted) r in omega arith)
-      go false r =
-          let s = reached .stop (ltb-false phase 7 r) in
-          subst (Ends (world chip (at phase i) false looks ordered last)) (sym (no-events phase i chip (reached .fitted) r))
-          (ended-finished phase i chip looks ordered last reached (s .0) (s .1))
-  finishes (suc left) phase i chip looks ordered last reached e = go (running (at phase i)) refl (λ chip last p j looks ordered. finishes left p j chip looks ordered last)
+  leads-on : (k phase i : ℕ) (chip : List ℕ) (last : Option (List ℕ)) → Reached phase i chip last → LeadsOn k (drop (position (at phase i)) (orders kind layout image)) (at phase i) chip last
+  unfolding obeying obeyedAll stateAfter
+  leads-on zero phase i chip last reached = λ goal events on-from looks ordered. on-from phase i looks ordered last (record { reached = reached; state = refl; rest = refl })
+  leads-on (suc k) phase i chip last reached = go (running (at phase i)) refl (λ chip last p j r. leads-on k p j chip last r)
     where
       go : (b : Bool) → running (at phase i) ≡ b →
-          ((chip : List ℕ) (last : Option (List ℕ)) (p j looks : ℕ) (ordered : Bool) → Reached p j chip last → position (at p j) + left ≡ total layout (length image) →
-          Ends (world chip (at p j) false looks ordered last) (eventsFrom (position (at p j)) chip)) →
-          Ends (world chip (at phase i) false looks ordered last) (eventsFrom (position (at phase i)) chip)
-      go true r rest = order-finishes phase i chip last reached r left e (rest (obeyed (order phase i) chip) (orderedImage (eqb phase 5) image last)) looks ordered
-      go false r rest = absurd (let p = position-ended (at phase i) (length image) (reached .fitted) r in omega arith)
+          ((chip : List ℕ) (last : Option (List ℕ)) (p j : ℕ) → Reached p j chip last → LeadsOn k (drop (position (at p j)) (orders kind layout image)) (at p j) chip last) →
+          LeadsOn (suc k) (drop (position (at phase i)) (orders kind layout image)) (at phase i) chip last
+      go true r on = subst (λ (left : List Order). LeadsOn (suc k) left (at phase i) chip last) (sym (orders-left kind (at phase i) image (reached .fitted) r)) one-more
+        where
+          f : Further phase i (obeyed (order phase i) chip) (orderedImage (eqb phase 5) image last)
+          f = further phase i chip last reached r
+
+          more : List Order
+          more = drop (position (at phase i) + 1) (orders kind layout image)
+
+          here : LeadsOn k more (at (f .then-phase) (f .then-index)) (obeyed (order phase i) chip) (orderedImage (eqb phase 5) image last)
+          here =
+              subst (λ (n : ℕ). LeadsOn k (drop n (orders kind layout image)) (at (f .then-phase) (f .then-index)) (obeyed (order phase i) chip) (orderedImage (eqb phase 5) image last))
+              (ap position (sym (f .comes)) ∙ after-position (at phase i) (length image) (reached .fitted) r)
+              (on (obeyed (order phase i) chip) (orderedImage (eqb phase 5) image last) (f .then-phase) (f .then-index) (f .reached))
+
+          one-more : LeadsOn (suc k) (order phase i ∷ more) (at phase i) chip last
+          one-more goal events on-from looks ordered =
+              order-first phase i chip last reached r goal looks ordered (obeying image (take k more) (obeyed (order phase i) chip) ++ events)
+              (λ looks ordered.
+              subst (λ (s : State). Leads kind updatePlace goal (world (obeyed (order phase i) chip) s false looks ordered (orderedImage (eqb phase 5) image last)) (obeying image (take k more) (obeyed (order phase i) chip) ++ events)) (sym (f .comes))
+              (here goal events
+              (λ p j looks ordered later c.
+              on-from p j looks ordered later (record { reached = c .reached; state = c .state ∙ ap (stateAfter (length (take k more))) (sym (f .comes)); rest = c .rest }))
+              looks ordered))
+      go false r on =
+          subst (λ (left : List Order). LeadsOn (suc k) left (at phase i) chip last) (sym (orders-ended kind (at phase i) image (reached .fitted) r))
+          (λ goal events on-from looks ordered. on-from phase i looks ordered last (record { reached = reached; state = refl; rest = sym (orders-ended kind (at phase i) image (reached .fitted) r) }))
 
   -- its start before
   start-first : (goal : World → Type 0) (w : World) (events : List Event) → layout .«chip_length» ≡ length (w .chip) → layout .«update_place» ≡ updatePlace →
@@ -247,78 +244,105 @@ module _ (kind : Kind) (lawful : Lawful kind) (updatePlace : ℕ) (layout : Layo
       accepted : startAnswer kind layout image ≡ Started (first layout (length image))
       accepted = start-accepted kind layout image numbers alone
 
-  -- THE UNCUT RUN.
-  pub uncut-run : (w : World) → layout .«chip_length» ≡ length (w .chip) → layout .«update_place» ≡ updatePlace → Ends w (uncut kind layout image (w .chip))
+  -- A RUN on a chip that obeys: its start, k of its orders, or all, and what leads on from there.
+  run-leads : (k : ℕ) (w : World) → layout .«chip_length» ≡ length (w .chip) → layout .«update_place» ≡ updatePlace → (goal : World → Type 0) (events : List Event) →
+      ((phase i looks : ℕ) (ordered : Bool) (last : Option (List ℕ)) → Came k (orders kind layout image) (first layout (length image)) (obeyedAll (take k (orders kind layout image)) (w .chip)) last phase i →
+      Leads kind updatePlace goal (world (obeyedAll (take k (orders kind layout image)) (w .chip)) (at phase i) false looks ordered last) events) →
+      Leads kind updatePlace goal w (starts layout image ∷ (obeying image (take k (orders kind layout image)) (w .chip) ++ events))
   unfolding countBefore
+  run-leads k w l u goal events on-from =
+      start-first goal w (obeying image (take k (orders kind layout image)) (w .chip) ++ events) l u
+      (leads-on k 0 0 (w .chip) (w .image) (begins w l) goal events on-from 0 false)
+
+  -- Its state then is the one after as many orders.
+  abbrev AtState : ℕ → World → Type 0
+  AtState k w = w .run ≡ some (record { state = stateAfter (length (take k (orders kind layout image))) (first layout (length image)); image = image; carried = false })
+
+  pub run-state : (k : ℕ) (w : World) → layout .«chip_length» ≡ length (w .chip) → layout .«update_place» ≡ updatePlace →
+      Leads kind updatePlace (AtState k) w (starts layout image ∷ (obeying image (take k (orders kind layout image)) (w .chip) ++ []))
+  unfolding Valid life
+  run-state k w l u =
+      run-leads k w l u (AtState k) []
+      (λ phase i looks ordered last c. record { valid = tt; reached = ap (λ (s : State). some (record { state = s; image = image; carried = false })) (c .state) })
+
+  -- THE UNCUT RUN has finished.
+  all-orders : (k : ℕ) → total layout (length image) ≤ k → take k (orders kind layout image) ≡ orders kind layout image
+  all-orders k h = let n = orders-length kind layout image in take-all k (orders kind layout image) (omega arith)
+
+  came-ended : (k phase i : ℕ) (chip : List ℕ) (last : Option (List ℕ)) → total layout (length image) ≤ k → Came k (orders kind layout image) (first layout (length image)) chip last phase i → (phase ≡ 7) × (i ≡ 0)
+  came-ended k phase i chip last h c = go (running (at phase i)) refl
+    where
+      none-left : drop (position (at phase i)) (orders kind layout image) ≡ []
+      none-left = let n = orders-length kind layout image in sym (c .rest) ∙ drop-of-length-le (orders kind layout image) {i = k} (omega arith)
+
+      go : (b : Bool) → running (at phase i) ≡ b → (phase ≡ 7) × (i ≡ 0)
+      go false r = c .reached .stop (ltb-false phase 7 r)
+      go true r =
+          let n = orders-length kind layout image in
+          let d = length-drop (position (at phase i)) (orders kind layout image) in
+          let z : length (drop (position (at phase i)) (orders kind layout image)) ≡ 0 = ap length none-left in
+          let p = position-running (at phase i) (length image) (c .reached .fitted) r in
+          absurd (omega arith)
+
+  pub uncut-run : (w : World) → layout .«chip_length» ≡ length (w .chip) → layout .«update_place» ≡ updatePlace → Ends w (uncut kind layout image (w .chip))
   uncut-run w l u =
-      start-first (Finished kind layout image) w (obeying image (orders kind layout image) (w .chip)) l u
-      (finishes (total layout (length image)) 0 0 (w .chip) 0 false (w .image) (begins w l) (zero-add (total layout (length image))))
+      subst (Ends w) (ap (λ (e : List Event). starts layout image ∷ e) (append-nil _ ∙ ap (λ (o : List Order). obeying image o (w .chip)) (all-orders (total layout (length image)) (omega arith))))
+      (run-leads (total layout (length image)) w l u (Finished kind layout image) []
+      (λ phase i looks ordered last c.
+      let s = came-ended (total layout (length image)) phase i _ last (omega arith) c in
+      ended-finished phase i _ looks ordered last (c .reached) (s .0) (s .1)))
+
+  -- At or above the total its state is the ended one.
+  pub run-ended : (k : ℕ) → total layout (length image) ≤ k → (w : World) → layout .«chip_length» ≡ length (w .chip) → layout .«update_place» ≡ updatePlace →
+      stateAfter (length (take k (orders kind layout image))) (first layout (length image)) ≡ ended (first layout (length image)) 0
+  unfolding Valid life
+  run-ended k h w l u =
+      run-leads k w l u (λ later. stateAfter (length (take k (orders kind layout image))) (first layout (length image)) ≡ ended (first layout (length image)) 0) []
+      (λ phase i looks ordered last c.
+      let s = came-ended k phase i _ last h c in
+      record { valid = tt; reached = sym (c .state) ∙ ap₂ at (s .0) (s .1) })
+      .reached
 
   -- A RUN THAT IS CUT after k orders, as the bench cuts it: the events lead to the chip that the bench leaves.
   module _ (damage : List ℕ) (small : Bytes damage) where
-    abbrev Cut : ℕ → List Order → List ℕ → World → Type 0
-    Cut k left chip w = w .chip ≡ cutIn (drop k left) (obeyedAll (take k left) chip) damage
+    abbrev Cut : List Order → List ℕ → World → Type 0
+    Cut left chip w = w .chip ≡ cutIn left chip damage
 
-    -- what is to be shown of a run that is cut after k of the orders left
-    abbrev CutsShort : ℕ → ℕ → ℕ → List ℕ → Option (List ℕ) → List Order → Type 0
-    CutsShort k phase i chip last left =
-        (looks : ℕ) (ordered : Bool) → cutAllowed (drop k left) (obeyedAll (take k left) chip) damage ≡ true →
-        Leads kind updatePlace (Cut k left chip) (world chip (at phase i) false looks ordered last) (benchEvents k image left chip damage)
-
-    -- none is left
-    cut-none : (k phase i : ℕ) (chip : List ℕ) (last : Option (List ℕ)) → CutsShort k phase i chip last []
-    unfolding cutEvents benchEvents cutIn obeyedAll Valid life
-    cut-none zero phase i chip last looks ordered allowed = record { valid = tt; reached = refl }
-    cut-none (suc k) phase i chip last looks ordered allowed = record { valid = tt; reached = refl }
-
-    module _ (phase i : ℕ) (chip : List ℕ) (last : Option (List ℕ)) (reached : Reached phase i chip last) (runs : running (at phase i) ≡ true) (more : List Order) where
-      within-chip : orderPlace (order phase i) + orderLength (order phase i) ≤ length chip
-      within-chip =
-          let s = says phase i chip last reached runs in
-          let l = reached .long in
-          subst (λ (o : Order). orderPlace o + orderLength o ≤ length chip) (sym (is-order phase i chip last reached runs))
-          (let w = order-within kind lawful layout image numbers phase (s .0) i (s .1) in omega arith)
-
-      -- in the current order
-      cut-here : CutsShort 0 phase i chip last (order phase i ∷ more)
-      unfolding cutAllowed cutEvents benchEvents Admissible next onRun carryOut cutIn obeyedAll Valid life
-      cut-here looks ordered allowed =
-          event-first kind updatePlace (Cut 0 (order phase i ∷ more) chip) (world chip (at phase i) false looks ordered last) _ _
-          (record { asked = runs; once = refl; leaves = damage-may (order phase i) chip damage within-chip small allowed })
-          (record { valid = (tt, tt); reached = refl })
-
-      -- in a later one
-      cut-later : (k : ℕ) → ((p j : ℕ) → Reached p j (obeyed (order phase i) chip) (orderedImage (eqb phase 5) image last) → position (at p j) ≡ position (at phase i) + 1 →
-          CutsShort k p j (obeyed (order phase i) chip) (orderedImage (eqb phase 5) image last) more) → CutsShort (suc k) phase i chip last (order phase i ∷ more)
-      unfolding benchEvents obeyedAll
-      cut-later k rest looks ordered allowed =
-          order-first phase i chip last reached runs (Cut k more (obeyed (order phase i) chip)) looks ordered (benchEvents k image more (obeyed (order phase i) chip) damage)
-          (λ looks ordered.
-          let f = further phase i chip last reached runs in
-          subst (λ (s : State). Leads kind updatePlace (Cut k more (obeyed (order phase i) chip)) (world (obeyed (order phase i) chip) s false looks ordered (orderedImage (eqb phase 5) image last)) (benchEvents k image more (obeyed (order phase i) chip) damage)) (sym (f .comes))
-          (rest (f .then-phase) (f .then-index) (f .reached) (ap position (sym (f .comes)) ∙ after-position (at phase i) (length image) (reached .fitted) runs) looks ordered allowed))
-
-    cuts-short : (k phase i : ℕ) (chip : List ℕ) (last : Option (List ℕ)) → Reached phase i chip last → CutsShort k phase i chip last (drop (position (at phase i)) (orders kind layout image))
-    cuts-short zero phase i chip last reached = go (running (at phase i)) refl
+    -- in the current order, or after the last
+    cut-next : (phase i : ℕ) (chip : List ℕ) (looks : ℕ) (ordered : Bool) (last : Option (List ℕ)) → Reached phase i chip last → (left : List Order) → left ≡ drop (position (at phase i)) (orders kind layout image) →
+        cutAllowed left chip damage ≡ true → Leads kind updatePlace (Cut left chip) (world chip (at phase i) false looks ordered last) (cutEvents left chip damage)
+    unfolding cutAllowed cutEvents Admissible next onRun carryOut cutIn Valid life
+    cut-next phase i chip looks ordered last reached left e allowed = go (running (at phase i)) refl
       where
-        go : (b : Bool) → running (at phase i) ≡ b → CutsShort 0 phase i chip last (drop (position (at phase i)) (orders kind layout image))
-        go true r = subst (CutsShort 0 phase i chip last) (sym (orders-left kind (at phase i) image (reached .fitted) r)) (cut-here phase i chip last reached r (drop (position (at phase i) + 1) (orders kind layout image)))
-        go false r = subst (CutsShort 0 phase i chip last) (sym (orders-ended kind (at phase i) image (reached .fitted) r)) (cut-none 0 phase i chip last)
-    cuts-short (suc k) phase i chip last reached = go (running (at phase i)) refl (λ chip last p j r. cuts-short k p j chip last r)
-      where
-        go : (b : Bool) → running (at phase i) ≡ b →
-            ((chip : List ℕ) (last : Option (List ℕ)) (p j : ℕ) → Reached p j chip last → CutsShort k p j chip last (drop (position (at p j)) (orders kind layout image))) →
-            CutsShort (suc k) phase i chip last (drop (position (at phase i)) (orders kind layout image))
-        go true r rest =
-            subst (CutsShort (suc k) phase i chip last) (sym (orders-left kind (at phase i) image (reached .fitted) r))
-            (cut-later phase i chip last reached r (drop (position (at phase i) + 1) (orders kind layout image)) k
-            (λ p j reached e. subst (λ (n : ℕ). CutsShort k p j (obeyed (order phase i) chip) (orderedImage (eqb phase 5) image last) (drop n (orders kind layout image))) e (rest (obeyed (order phase i) chip) (orderedImage (eqb phase 5) image last) p j reached)))
-        go false r rest = subst (CutsShort (suc k) phase i chip last) (sym (orders-ended kind (at phase i) image (reached .fitted) r)) (cut-none (suc k) phase i chip last)
+        cut-none : Leads kind updatePlace (Cut [] chip) (world chip (at phase i) false looks ordered last) (cutEvents [] chip damage)
+        cut-none = record { valid = tt; reached = refl }
+
+        within-chip : running (at phase i) ≡ true → orderPlace (order phase i) + orderLength (order phase i) ≤ length chip
+        within-chip r =
+            let s = says phase i chip last reached r in
+            let l = reached .long in
+            subst (λ (o : Order). orderPlace o + orderLength o ≤ length chip) (sym (is-order phase i chip last reached r))
+            (let w = order-within kind lawful layout image numbers phase (s .0) i (s .1) in omega arith)
+
+        cut-here : running (at phase i) ≡ true → (more : List Order) → cutAllowed (order phase i ∷ more) chip damage ≡ true →
+            Leads kind updatePlace (Cut (order phase i ∷ more) chip) (world chip (at phase i) false looks ordered last) (cutEvents (order phase i ∷ more) chip damage)
+        cut-here r more spans =
+            event-first kind updatePlace (Cut (order phase i ∷ more) chip) (world chip (at phase i) false looks ordered last) _ _
+            (record { asked = r; once = refl; leaves = damage-may (order phase i) chip damage (within-chip r) small spans })
+            (record { valid = (tt, tt); reached = refl })
+
+        go : (b : Bool) → running (at phase i) ≡ b → Leads kind updatePlace (Cut left chip) (world chip (at phase i) false looks ordered last) (cutEvents left chip damage)
+        go true r =
+            let q = e ∙ orders-left kind (at phase i) image (reached .fitted) r in
+            subst (λ (l : List Order). Leads kind updatePlace (Cut l chip) (world chip (at phase i) false looks ordered last) (cutEvents l chip damage)) (sym q)
+            (cut-here r (drop (position (at phase i) + 1) (orders kind layout image)) (subst (λ (l : List Order). cutAllowed l chip damage ≡ true) q allowed))
+        go false r =
+            subst (λ (l : List Order). Leads kind updatePlace (Cut l chip) (world chip (at phase i) false looks ordered last) (cutEvents l chip damage)) (sym (e ∙ orders-ended kind (at phase i) image (reached .fitted) r)) cut-none
 
     -- THE RUN THAT IS CUT.
     pub cut-run : (w : World) (k : ℕ) → layout .«chip_length» ≡ length (w .chip) → layout .«update_place» ≡ updatePlace →
         cutAllowed (drop k (orders kind layout image)) (obeyedAll (take k (orders kind layout image)) (w .chip)) damage ≡ true →
-        Leads kind updatePlace (Cut k (orders kind layout image) (w .chip)) w (starts layout image ∷ benchEvents k image (orders kind layout image) (w .chip) damage)
-    unfolding countBefore
+        Leads kind updatePlace (Cut (drop k (orders kind layout image)) (obeyedAll (take k (orders kind layout image)) (w .chip))) w (starts layout image ∷ benchEvents k image (orders kind layout image) (w .chip) damage)
     cut-run w k l u allowed =
-        start-first (Cut k (orders kind layout image) (w .chip)) w (benchEvents k image (orders kind layout image) (w .chip) damage) l u (cuts-short k 0 0 (w .chip) (w .image) (begins w l) 0 false allowed)
+        run-leads k w l u (Cut (drop k (orders kind layout image)) (obeyedAll (take k (orders kind layout image)) (w .chip))) (cutEvents (drop k (orders kind layout image)) (obeyedAll (take k (orders kind layout image)) (w .chip)) damage)
+        (λ phase i looks ordered last c. cut-next phase i _ looks ordered last (c .reached) (drop k (orders kind layout image)) (c .rest) allowed)

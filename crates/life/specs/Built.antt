@@ -11,6 +11,7 @@ use Rattle.kind.specs.Kind.{Kind}
 use Rattle.kind.specs.Spi.{spi}
 use Rattle.builder.specs.Builder.{builtChip, buildAnswer}
 use Rattle.life.specs.Life.{fresh, Event, Valid, life, Claim}
+use Rattle.life.specs.AsOrdered.{LiterallyValid}
 
 -- A chip loads an image at a place, whole, jumped or not: its boot answer is the image's check moved there, and its i-th write, places apart, is the image's own, for every i.
 pub record Boots (kind : Kind) (chip image : List ℕ) (place : ℕ) (jumped : Bool) : Type 0 where
@@ -25,4 +26,10 @@ pub record Boots (kind : Kind) (chip image : List ℕ) (place : ℕ) (jumped : B
 abbrev pub BuiltDemand3 : Type 0
 BuiltDemand3 =
     (layout : Layout) (golden : List ℕ) (room : ℕ) → buildAnswer spi layout golden room ≡ Built → (events : List Event) → Valid spi (layout .«update_place») (fresh (builtChip spi layout golden)) events →
+    Claim spi (Boots spi) (layout .«update_place») golden (life spi (fresh (builtChip spi layout golden)) events)
+
+-- The same claim after a list that keeps the premises word for word (`LiterallyValid`).
+abbrev pub BuiltAsOrdered : Type 0
+BuiltAsOrdered =
+    (layout : Layout) (golden : List ℕ) (room : ℕ) → buildAnswer spi layout golden room ≡ Built → (events : List Event) → LiterallyValid spi (layout .«update_place») (fresh (builtChip spi layout golden)) events →
     Claim spi (Boots spi) (layout .«update_place») golden (life spi (fresh (builtChip spi layout golden)) events)

@@ -115,7 +115,7 @@ unfoldable pub AdmissibleStart : StartAnswer → ℕ → Layout → World → Ty
 AdmissibleStart (Started state) updatePlace layout w = (layout .«chip_length» ≡ length (w .chip)) × (layout .«update_place» ≡ updatePlace)
 AdmissibleStart (StartRefused number place) updatePlace layout w = Unit {0}
 
--- What may stand in an order's span afterwards: in segment 0 each bit old or as ordered, in the update area any bytes. A look has no say.
+-- What may stand in an order's span afterwards: in segment 0 each bit old or as ordered, in the update area any bytes. Nothing is asked of a look. ("As ordered" is here as an obeying chip would hold it; of every order that a run can give this is the rule word for word: the theorem `AsOrdered`.)
 unfoldable pub AdmissibleSpan : Order → List ℕ → List ℕ → Type 0
 AdmissibleSpan (erase place count) chip left = MayLeave chip place (obeyedSpan (erase place count) chip) left
 AdmissibleSpan (program place bytes) chip left = MayLeave chip place (obeyedSpan (program place bytes) chip) left
@@ -198,6 +198,12 @@ pub record OrderedLoads (loads : Loading) (updatePlace : ℕ) (w : World) : Type
   pub ordered : w .image ≡ some image
   pub loaded : loads (w .chip) image updatePlace true
 
+-- What a run tells that has ended with outcome 0: the switch is ON, its image is the ordered one, and that loads, after a jump.
+pub record DoneLoads (kind : Kind) (loads : Loading) (updatePlace : ℕ) (run : Run) (w : World) : Type 0 where
+  pub on : isOn kind w ≡ true
+  pub ordered : w .image ≡ some (run .image)
+  pub loaded : loads (w .chip) (run .image) updatePlace true
+
 -- THE CLAIM about a world.
 pub record Claim (kind : Kind) (loads : Loading) (updatePlace : ℕ) (golden : List ℕ) (w : World) : Type 0 where
   -- The reader loads golden, whole and without a jump, exactly when the switch is OFF;
@@ -211,6 +217,8 @@ pub record Claim (kind : Kind) (loads : Loading) (updatePlace : ℕ) (golden : L
   -- One more run, uncut on a chip that obeys, makes its own image load: every image that a start with this chip's length and U accepts.
   pub again : (layout : Layout) (image : List ℕ) (state : State) → startAnswer kind layout image ≡ Started state → layout .«chip_length» ≡ length (w .chip) → layout .«update_place» ≡ updatePlace →
       Bytes image → Updates kind loads updatePlace layout image w
+  -- Done means done, on every chip that keeps the premises, also one that calls an order done and did otherwise: while a run is open in phase 7 with outcome 0, its own image loads.
+  pub done-loads : (run : Run) → w .run ≡ some run → run .state .phase ≡ 7 → run .state .outcome ≡ 0 → DoneLoads kind loads updatePlace run w
 
 -- the ordered image, an accepted one, and that the chip contains it at U
 pub record OrderedImageInPlace (kind : Kind) (updatePlace : ℕ) (w : World) : Type 0 where
@@ -227,7 +235,7 @@ pub record LifeBegins (kind : Kind) (updatePlace : ℕ) (w : World) : Type 0 whe
   pub formed : WellFormed kind updatePlace (w .chip)
   pub image : isOn kind w ≡ true → OrderedImageInPlace kind updatePlace w
 
--- DEMAND 3, of any kind that keeps its laws, from any such start. Golden is what the golden area then held.
+-- DEMAND 3, of any kind that keeps its laws, from any such start. Golden is what the golden area then held. (That `Valid` leaves out no list that the premises' words allow: `AsOrdered`.)
 abbrev pub Demand3 : Kind → Type 0
 Demand3 kind =
     (updatePlace : ℕ) (w : World) → LifeBegins kind updatePlace w → (events : List Event) → Valid kind updatePlace w events →

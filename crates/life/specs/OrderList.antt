@@ -1,17 +1,19 @@
 -- DEMAND 2 of a run: it gives exactly the orders of the list, in order, until done or stopped.
 use Prim.Native.Nat.{ℕ, _+_, _-_, _<_, _≤_}
 use mathlib.Core.Path.{_≡_}
+use mathlib.Core.Logic.{_⊎_}
 use mathlib.Core.Bool.{true, false}
 use mathlib.Core.List.{List, []}
 use lib.ListN.{length, getD}
+use Rattle.base.specs.Refusal.{switchNotErased, updateDiffers, switchNotOn}
 use Rattle.kind.specs.Kind.{Kind}
 use Rattle.life.specs.Types.{Layout, State, Next, Stopped}
-use Rattle.orders.specs.Table.{total}
+use Rattle.orders.specs.Table.{count, countBefore, total}
 use Rattle.orders.specs.Orders.{Order, erase, program, look, orders}
 use Rattle.updater.specs.State.{position, first, after, ended, running, fits, currentOrder}
-use Rattle.effects.specs.Effects.{orderPlace, orderLength, InReach, OnePage}
+use Rattle.effects.specs.Effects.{orderPlace, orderLength, InReach, WellPlaced}
 use Rattle.orders.specs.Replies.{done, read}
-use Rattle.updater.specs.Run.{stopOf, replyAnswer}
+use Rattle.updater.specs.Run.{replyAnswer}
 
 -- The reply that an order asks for: done, or the bytes expected.
 unfoldable pub Replies : Order → ℕ → List ℕ → Type 0
@@ -33,17 +35,57 @@ pub record Moved (kind : Kind) (state : State) (image : List ℕ) (replyKind : �
   pub replied : Replies (currentOrder kind state image) replyKind bytes
   pub comes : next ≡ after state
 
+-- The phases that look, with the stop of each: a run can stop in no other.
+abbrev pub StopsIn : ℕ → ℕ → Type 0
+StopsIn phase number = ((phase ≡ 1) × (number ≡ switchNotErased)) ⊎ (((phase ≡ 4) × (number ≡ updateDiffers)) ⊎ ((phase ≡ 6) × (number ≡ switchNotOn)))
+
 -- A reply that stops it: to a look, and only if a byte is another.
-pub record Halted (kind : Kind) (state : State) (image : List ℕ) (bytes : List ℕ) (number address : ℕ) (next : State) : Type 0 where
+pub record Halted (kind : Kind) (state : State) (image : List ℕ) (replyKind : ℕ) (bytes : List ℕ) (number address : ℕ) (next : State) : Type 0 where
   pub fitted : fits state (length image) ≡ true
   pub ran : running state ≡ true
   pub place : ℕ
   pub expected : List ℕ
   pub looked : currentOrder kind state image ≡ look place expected
+  pub said : replyKind ≡ read
   pub long : length bytes ≡ length expected
   pub differ : FirstDiffers place bytes expected address
-  pub stop : number ≡ stopOf (state .phase)
-  pub comes : next ≡ ended state (stopOf (state .phase))
+  pub stop : StopsIn (state .phase) number
+  pub comes : next ≡ ended state number
+
+-- Order i of a phase, in the list of orders.
+abbrev pub orderIn : Kind → Layout → List ℕ → ℕ → ℕ → Order
+orderIn kind layout image phase i = getD (orders kind layout image) (countBefore layout (length image) phase + i) (erase 0 0)
+
+-- Order i of phase 2 is an erase that takes a byte.
+pub record ErasesAt (kind : Kind) (layout : Layout) (image : List ℕ) (i address : ℕ) : Type 0 where
+  pub index : i < count layout (length image) 2
+  pub place : ℕ
+  pub size : ℕ
+  pub order : orderIn kind layout image 2 i ≡ erase place size
+  pub from : place ≤ address
+  pub within : address < place + size
+
+-- Order i of phase 3 is a program that puts a byte there.
+pub record ProgramsAt (kind : Kind) (layout : Layout) (image : List ℕ) (i address byte : ℕ) : Type 0 where
+  pub index : i < count layout (length image) 3
+  pub place : ℕ
+  pub bytes : List ℕ
+  pub order : orderIn kind layout image 3 i ≡ program place bytes
+  pub from : place ≤ address
+  pub within : address < place + length bytes
+  pub puts : getD bytes (address - place) 0 ≡ byte
+
+-- THE UPDATE AREA'S ORDERS: phase 2 has erases only, which take each byte of the area, once, and no other byte; phase 3 has programs only, which put each byte of the image, once, as far from U as it is in the image, and nothing else.
+pub record UpdatesArea (kind : Kind) (layout : Layout) (image : List ℕ) : Type 0 where
+  pub erases : (i : ℕ) → i < count layout (length image) 2 → (place : ℕ) × (size : ℕ) × (orderIn kind layout image 2 i ≡ erase place size)
+  pub erased-once : (address : ℕ) → layout .«update_place» ≤ address → address < layout .«update_place» + layout .«update_length» →
+      (i : ℕ) × ErasesAt kind layout image i address × ((k : ℕ) → ErasesAt kind layout image k address → k ≡ i)
+  pub erased-only : (i address : ℕ) → ErasesAt kind layout image i address → (layout .«update_place» ≤ address) × (address < layout .«update_place» + layout .«update_length»)
+  pub programs : (i : ℕ) → i < count layout (length image) 3 → (place : ℕ) × (bytes : List ℕ) × (orderIn kind layout image 3 i ≡ program place bytes)
+  pub programmed-once : (j : ℕ) → j < length image →
+      (i : ℕ) × ProgramsAt kind layout image i (layout .«update_place» + j) (getD image j 0) × ((k byte : ℕ) → ProgramsAt kind layout image k (layout .«update_place» + j) byte → k ≡ i)
+  pub programmed-only : (i address byte : ℕ) → ProgramsAt kind layout image i address byte →
+      (layout .«update_place» ≤ address) × (address < layout .«update_place» + length image) × (byte ≡ getD image (address - layout .«update_place») 0)
 
 pub record Demand2 (kind : Kind) : Type 0 where
   -- The total is the list's length; the first state is at its first order, and an ended run behind its last.
@@ -58,13 +100,15 @@ pub record Demand2 (kind : Kind) : Type 0 where
   -- the one asked for is neither;
   pub agrees : (state : State) (image : List ℕ) (replyKind : ℕ) (bytes : List ℕ) → fits state (length image) ≡ true → running state ≡ true → Replies (currentOrder kind state image) replyKind bytes →
       replyAnswer kind state image replyKind bytes ≡ Next (after state)
-  -- bytes of the length asked for in which one is not as it must be are a stop,
+  -- bytes of the length asked for in which one is not as it must be are a stop, with the number of the phase,
   pub halts : (state : State) (image : List ℕ) (bytes : List ℕ) (place : ℕ) (expected : List ℕ) → fits state (length image) ≡ true → running state ≡ true →
       currentOrder kind state image ≡ look place expected → length bytes ≡ length expected → (bytes ≡ expected → ⊥) →
-      (address : ℕ) × (replyAnswer kind state image read bytes ≡ Stopped (stopOf (state .phase)) address (ended state (stopOf (state .phase))))
-  -- and a stop is at the first byte that is not.
+      (number : ℕ) × (address : ℕ) × StopsIn (state .phase) number × (replyAnswer kind state image read bytes ≡ Stopped number address (ended state number))
+  -- and a stop is in one of those phases, at the first byte that is not.
   pub stops : (state : State) (image : List ℕ) (replyKind : ℕ) (bytes : List ℕ) (number address : ℕ) (next : State) → replyAnswer kind state image replyKind bytes ≡ Stopped number address next →
-      Halted kind state image bytes number address next
-  -- No order leaves segment 0 and the update area, and a program stays inside its page.
+      Halted kind state image replyKind bytes number address next
+  -- No order leaves segment 0 and the update area; an erase is one segment at a multiple of its length, a program 1 to 256 bytes inside one page;
   pub reach : (state : State) (image : List ℕ) → fits state (length image) ≡ true → running state ≡ true →
-      InReach (state .layout) (orderPlace (currentOrder kind state image)) (orderLength (currentOrder kind state image)) × OnePage (currentOrder kind state image)
+      InReach (state .layout) (orderPlace (currentOrder kind state image)) (orderLength (currentOrder kind state image)) × WellPlaced (currentOrder kind state image)
+  -- and those of phases 2 and 3 are exactly the update area's.
+  pub area : (layout : Layout) (image : List ℕ) → fits (first layout (length image)) (length image) ≡ true → UpdatesArea kind layout image

@@ -15,6 +15,7 @@ use Rattle.mcsline.specs.Line.{Parsed, Is, Refuses, parsed}
 use Rattle.mcsline.proofs.Laws.{not-lf, pairs-bytes, text-parsed, parsed-text, record-room}
 use Rattle.mcs.specs.Text.{fileText, FileFrom, FileOf}
 use Rattle.mcs.specs.Reading.{follows, prepend, linesOf, isEmpty, Holds, readLines, readText}
+use Rattle.mcs.specs.Theorems.{TextLength}
 use Rattle.mcs.proofs.LinesLaws.{lines-none, lines-lf, lines-on, before-line}
 use Rattle.mcs.proofs.ReadingLaws.{read-none, read-refused, read-apart, read-data, read-upper, read-end, read-more, none-none, none-some}
 use Rattle.mcs.proofs.FillLaws.{refused-holds}
@@ -180,7 +181,7 @@ file-room (Row (ExtendedLinearAddress upper) e ∷ lines) half image whole h =
     omega arith
 file-room (Row End e ∷ lines) half image whole h = let same : length image ≡ length whole = ap (λ (l : List ℕ). length l) (h .1) in omega arith
 
-pub holds-room : (text image : List ℕ) → readText text ≡ Holds image → 2 * length image ≤ length text
+pub holds-room : TextLength
 holds-room text image e =
     let w = holds-file text image e in
     let long : length text ≡ length (fileText (w .0)) = ap (λ (l : List ℕ). length l) (w .1 .0) in

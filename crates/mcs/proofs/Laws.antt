@@ -1,3 +1,8 @@
 -- What crates above may count on of the reader, beside its contract: which texts hold an image, and how long they are.
-pub use Rattle.mcs.proofs.FileLaws.{file-holds, holds-file, holds-room}
+use Rattle.mcs.specs.Theorems.{RoundTrip}
+use Rattle.mcs.proofs.FileLaws.{file-holds, holds-file}
+pub use Rattle.mcs.proofs.FileLaws.{holds-room}
 pub use Rattle.mcs.proofs.AnswerLaws.{read-says, refused-says}
+
+pub round-trip : RoundTrip
+round-trip = record { file-holds = file-holds; holds-file = holds-file }

@@ -3,5 +3,7 @@ pub mod Types
 pub mod Text
 pub mod Reading
 pub mod Reader
+-- What is proved of them, beside the contract.
+pub mod Theorems
 -- What only the contracts of functions that are no public calls cite. No promise rests on it.
 pub mod Passes

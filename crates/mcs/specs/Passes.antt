@@ -1,4 +1,4 @@
--- What only the contracts of private functions cite: what the two passes over a text go by. No promise rests on it.
+-- What only the contracts of functions that are no public calls cite: what the two passes over a text go by. No promise rests on it.
 use Prim.Native.Nat.{ℕ, _≤_}
 use lib.ListN.{length}
 use Rattle.mcs.specs.Reading.{Reading, Holds, Refused}

@@ -2,9 +2,10 @@
 ghost use mathlib.Core.Path.{_≡_};
 ghost use Prim.Native.Nat.{_^_, _<_};
 ghost use lib.ListN.{length};
+ghost use Rattle.base.specs.Answer.{Gives};
 ghost use Rattle.digits.specs.Table.{DigitTable};
 ghost use Rattle.mcs.specs.Reading.{follows, readText};
-ghost use Rattle.mcs.specs.Reader.{readAnswer, readOutput};
+ghost use Rattle.mcs.specs.Reader.{readNumbers, readAnswer, readOutput};
 ghost use Rattle.mcs.specs.Passes.{sizeOf, Fits};
 use base::refusal;
 use digits::pairs::decode;
@@ -146,7 +147,7 @@ fn read_by(values: &[u8], text: &[u8], out: &mut [u8]) -> ReadAnswer
 // Reads a text into a buffer: how many bytes of the image are at its front; or refusal 14 to 19, and the buffer as it
 // was.
 pub fn read(text: &[u8], out: &mut [u8]) -> ReadAnswer
-    ensures answer { λ r. ⌜ r ≡ readAnswer (now (text .entry)) (now (out .entry)) ⌝ }
+    ensures answer { λ r. ⌜ Gives readNumbers r (readAnswer (now (text .entry)) (now (out .entry))) ⌝ }
     ensures output { λ r. ⌜ now (out .exit) ≡ readOutput (now (text .entry)) (now (out .entry)) ⌝ }
 {
     let values = digit_values();

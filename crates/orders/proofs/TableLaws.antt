@@ -5,6 +5,7 @@ use native.Mathlib.Omega.{arith}
 use Rattle.kind.specs.Layout.{page, segment}
 use Rattle.orders.specs.Types.{Layout}
 use Rattle.orders.specs.Table.{byPhase, pages, count, countBefore, total}
+use Rattle.orders.specs.Theorems.{TotalFormula}
 
 -- A fact of phases 0 to 6, one by one.
 pub phases {ℓ} : (P : ℕ → Type ℓ) → P 0 → P 1 → P 2 → P 3 → P 4 → P 5 → P 6 → (phase : ℕ) → phase < 7 → P phase
@@ -64,7 +65,7 @@ unfolding countBefore
 before-next layout n phase = let e : phase + 1 ≡ suc phase = omega arith in ap (countBefore layout n) e
 
 -- In all A/4,096 + A/256 + n/256 rounded up + 19.
-pub total-is : (layout : Layout) (n : ℕ) → total layout n ≡ layout .«update_length» / 4096 + layout .«update_length» / 256 + (n + 255) / 256 + 19
+pub total-is : TotalFormula
 unfolding countBefore count byPhase
 total-is layout n = omega arith
 

@@ -3,6 +3,8 @@ pub mod Types
 pub mod Table
 pub mod Orders
 pub mod Replies
+-- What is proved of them, beside the contracts.
+pub mod Theorems
 -- What only the contracts of functions that are no public calls cite. No promise rests on it.
 pub mod Carried
 pub mod Judging

@@ -5,6 +5,7 @@ use mathlib.Core.Option.{Option, some, none}
 use mathlib.Core.List.{List, [], _∷_, map}
 use lib.ListN.{drop}
 use lib.Dec.{eqb}
+use Rattle.base.specs.Answer.{Numbered, result, refusal}
 use Rattle.framing.specs.Words.{words}
 use Rattle.packets.specs.Header.{headOf, effectOf, WBSTAR}
 use Rattle.packets.specs.Types.{Header, Nop, Type1, Type2, BadHeader, GoesOn, Desync, EffectIprog, Finish, FinishEnded, FinishIprog, FinishFault, FinishShort, Write, WriteAnswer, WriteFound, NoWrite, WriteRefused}
@@ -90,6 +91,12 @@ writesFrom bytes from = listOf (traceFrom bytes from)
 -- the writes, places apart
 abbrev pub contents : List Write → List (ℕ × ℕ)
 contents writes = map (λ w. (w .register, w .word)) writes
+
+-- in numbers: 1, register, word, place; 0 where there is none
+unfoldable pub writeNumbers : WriteAnswer → Numbered
+writeNumbers (WriteFound write) = result (1 ∷ write .register ∷ write .word ∷ write .place ∷ [])
+writeNumbers NoWrite = result (0 ∷ [])
+writeNumbers (WriteRefused number place) = refusal number place
 
 -- the i-th, counted from 0, or that there is none
 unfoldable pub nthWrite : List Write → ℕ → WriteAnswer

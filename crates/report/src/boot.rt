@@ -1,11 +1,12 @@
 // The report of what a chip loads: a line that names it, one for each write in order, and the end.
 ghost use mathlib.Core.Path.{_≡_};
 ghost use lib.ListN.{length};
+ghost use Rattle.base.specs.Answer.{Gives};
 ghost use Rattle.kind.specs.Spi.{spi};
 ghost use Rattle.bootreader.specs.Boot.{bootAnswer};
 ghost use Rattle.report.specs.Types.{BootLoaded};
 ghost use Rattle.reportlines.specs.Reportlines.{stuckLine};
-ghost use Rattle.report.specs.Refusal.{written};
+ghost use Rattle.report.specs.Refusal.{reportNumbers, written};
 ghost use Rattle.base.specs.Output.{frontFilled};
 ghost use Rattle.report.specs.Boot.{chipAnswer, chipOutput};
 use crate::refusal::ReportAnswer;
@@ -60,7 +61,7 @@ fn report_stuck(place: usize, out: &mut [u8]) -> ReportAnswer
 
 // The report of a chip's bytes at the front of a buffer: how long it is; or refusal 1 or 19, and the buffer as it was.
 pub fn report(chip: &[u8], out: &mut [u8]) -> ReportAnswer
-    ensures answer { λ r. ⌜ r ≡ chipAnswer spi (now (chip .entry)) (length (now (out .entry))) ⌝ }
+    ensures answer { λ r. ⌜ Gives reportNumbers r (chipAnswer spi (now (chip .entry)) (length (now (out .entry)))) ⌝ }
     ensures output { λ r. ⌜ now (out .exit) ≡ chipOutput spi (now (chip .entry)) (now (out .entry)) ⌝ }
 {
     let booted = boot::answer(chip);

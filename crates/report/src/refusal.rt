@@ -1,7 +1,8 @@
 // The report of a refusal.
 ghost use mathlib.Core.Path.{_≡_};
 ghost use lib.ListN.{length};
-ghost use Rattle.report.specs.Refusal.{refusalAnswer, refusalOutput};
+ghost use Rattle.base.specs.Answer.{Gives};
+ghost use Rattle.report.specs.Refusal.{reportNumbers, refusalAnswer, refusalOutput};
 use base::refusal;
 use reportlines::put_refused;
 use reportlines::refused_length;
@@ -14,7 +15,7 @@ pub enum ReportAnswer {
 
 // The line `REFUSED`, number, place at the front of a buffer: how long it is; or refusal 19, and the buffer as it was.
 pub fn report(number: u32, place: usize, out: &mut [u8]) -> ReportAnswer
-    ensures answer { λ r. ⌜ r ≡ refusalAnswer number place (length (now (out .entry))) ⌝ }
+    ensures answer { λ r. ⌜ Gives reportNumbers r (refusalAnswer number place (length (now (out .entry)))) ⌝ }
     ensures output { λ r. ⌜ now (out .exit) ≡ refusalOutput number place (now (out .entry)) ⌝ }
 {
     let length = refused_length(number, place);

@@ -1,7 +1,7 @@
--- A C host gets numbers: a refusal's number, or 0 for none, and beside it the place or the values. What does not apply is 0. Here for the builder.
-use Rattle.results.specs.Types.{BuildAnswer, Built, BuildRefused, TealsettleBuild}
+-- A C host gets an answer's numbers, each in a field: number and place, then the values in the order of the fields. What does not apply is 0. Here for the builder.
+use Rattle.builder.specs.Builder.{buildNumbers}
+use Rattle.results.specs.Types.{BuildAnswer, TealsettleBuild}
 
 -- `tealsettle_build`: a chip was built at the front of the buffer, or a refusal that left it as it was
 unfoldable pub buildResult : BuildAnswer → TealsettleBuild
-buildResult Built = record { number = 0; place = 0 }
-buildResult (BuildRefused number place) = record { number = number; place = place }
+buildResult answer = record { number = buildNumbers answer .number; place = buildNumbers answer .place }

@@ -1,14 +1,9 @@
 -- The types of the code that this crate's definitions and proofs name, with their cases; each has one name in the whole tree.
 pub use Rattle.packets.specs.declared.trace.WriteAnswer.{WriteAnswer}
-pub use Rattle.packets.specs.declared.trace.WriteAnswer.the-variants.{Found as WriteFound, Nothing as NoWrite, Refused as WriteRefused}
 pub use Rattle.bootreader.specs.declared.boot.BootAnswer.{BootAnswer}
-pub use Rattle.bootreader.specs.declared.boot.BootAnswer.the-variants.{Loaded as BootLoaded, Stuck as BootStuck, Refused as BootRefused}
 pub use Rattle.bootreader.specs.declared.image.ImageAnswer.{ImageAnswer}
-pub use Rattle.bootreader.specs.declared.image.ImageAnswer.the-variants.{Accepted, Refused as ImageRefused}
 pub use Rattle.mcs.specs.declared.reader.ReadAnswer.{ReadAnswer}
-pub use Rattle.mcs.specs.declared.reader.ReadAnswer.the-variants.{Read, Refused as ReadRefused}
 pub use Rattle.builder.specs.declared.BuildAnswer.{BuildAnswer}
-pub use Rattle.builder.specs.declared.BuildAnswer.the-variants.{Built, Refused as BuildRefused}
 pub use Rattle.results.specs.declared.boot.TealsettleBoot.{TealsettleBoot}
 pub use Rattle.results.specs.declared.boot.TealsettleImage.{TealsettleImage}
 pub use Rattle.results.specs.declared.boot.TealsettleWrite.{TealsettleWrite}

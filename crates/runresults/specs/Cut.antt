@@ -1,8 +1,12 @@
--- A C host gets numbers: a refusal's number, or 0 for none, and beside it the place or the values. What does not apply is 0. Here for a run that is cut.
-use Rattle.runresults.specs.Run.{stateResult, noState}
-use Rattle.runresults.specs.Types.{BenchAnswer, Reached, BenchRefused, TealsettleBench}
+-- A C host gets an answer's numbers, each in a field: number and place, then the values in the order of the fields. What does not apply is 0. Here for a run that is cut.
+use Rattle.bench.specs.Bench.{benchNumbers}
+use Rattle.runresults.specs.Run.{stateFields}
+use Rattle.runresults.specs.Types.{BenchAnswer, TealsettleBench}
 
 -- `tealsettle_cut_run`: the state before the cut order, or at the run's end; or a refusal, which leaves the chip as it was
 unfoldable pub benchResult : BenchAnswer → TealsettleBench
-benchResult (Reached state) = record { number = 0; place = 0; state = stateResult state }
-benchResult (BenchRefused number place) = record { number = number; place = place; state = noState }
+benchResult answer = record {
+  number = benchNumbers answer .number;
+  place = benchNumbers answer .place;
+  state = stateFields (benchNumbers answer .values);
+}

@@ -1,20 +1,13 @@
 -- The types of the code that this crate's definitions and proofs name, with their cases; each has one name in the whole tree.
-pub use Rattle.orders.specs.declared.Operation.{Operation}
-pub use Rattle.orders.specs.declared.Operation.the-variants.{Erase, Program, Look}
 pub use Rattle.updater.specs.declared.run.FinishedAnswer.{FinishedAnswer}
-pub use Rattle.updater.specs.declared.run.FinishedAnswer.the-variants.{Running, Ended as RunHasEnded, Refused as FinishedRefused}
 pub use Rattle.updater.specs.declared.run.OrderAnswer.{OrderAnswer}
 pub use Rattle.updater.specs.declared.run.OrderResult.{OrderResult}
-pub use Rattle.updater.specs.declared.run.OrderResult.the-variants.{Ordered, Refused as OrderRefused}
+pub use Rattle.updater.specs.declared.run.OrderResult.the-variants.{Ordered}
 pub use Rattle.updater.specs.declared.run.ReplyAnswer.{ReplyAnswer}
-pub use Rattle.updater.specs.declared.run.ReplyAnswer.the-variants.{Next, Stopped, Refused as ReplyRefused}
 pub use Rattle.updater.specs.declared.state.State.{State}
 pub use Rattle.starts.specs.declared.StartAnswer.{StartAnswer}
-pub use Rattle.starts.specs.declared.StartAnswer.the-variants.{Started, Refused as StartRefused}
 pub use Rattle.starts.specs.declared.TotalAnswer.{TotalAnswer}
-pub use Rattle.starts.specs.declared.TotalAnswer.the-variants.{Total, Refused as TotalRefused}
 pub use Rattle.bench.specs.declared.BenchAnswer.{BenchAnswer}
-pub use Rattle.bench.specs.declared.BenchAnswer.the-variants.{Reached, Refused as BenchRefused}
 pub use Rattle.runresults.specs.declared.cut.TealsettleBench.{TealsettleBench}
 pub use Rattle.runresults.specs.declared.run.TealsettleFinished.{TealsettleFinished}
 pub use Rattle.runresults.specs.declared.run.TealsettleOrder.{TealsettleOrder}

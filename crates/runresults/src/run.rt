@@ -4,8 +4,9 @@ ghost use mathlib.Core.Path.{_≡_};
 ghost use mathlib.Core.List.{List};
 ghost use Rattle.kind.specs.Spi.{spi};
 ghost use Rattle.updater.specs.Run.{orderRefused, orderAnswer, replyAnswer};
-ghost use Rattle.runresults.specs.Run.{stateOf, stateResult, noState, startResult, totalResult, orderedResult, orderResult, orderNumbers, replyResult, finishedResult};
-ghost use Rattle.runresults.specs.Internal.{orderWith, replied};
+ghost use Rattle.runresults.specs.Run.{stateOf, startResult, totalResult, orderResult, replyResult, finishedResult};
+ghost use Rattle.runresults.specs.Internal.{stateResult, noState, orderWith, orderBeside, replied};
+ghost use Rattle.runresults.specs.Types.{Ordered};
 use kind::spi::Spi;
 use orders::Operation;
 use starts::StartAnswer;
@@ -181,7 +182,7 @@ pub fn total_result(answer: TotalAnswer) -> TealsettleTotal
 
 // The numbers of an order.
 fn operation_numbers(operation: Operation) -> OrderNumbers
-    ensures { λ r. ⌜ ((bytes : List ℕ) → orderWith r bytes ≡ orderedResult operation bytes) ⌝ }
+    ensures { λ r. ⌜ ((bytes : List ℕ) → orderWith r bytes ≡ orderBeside (Ordered operation) bytes) ⌝ }
 {
     match operation {
         Operation::Erase { place, length } => OrderNumbers {
@@ -210,7 +211,7 @@ fn operation_numbers(operation: Operation) -> OrderNumbers
 
 // The numbers of an order or a refusal.
 fn order_numbers(asked: OrderResult) -> OrderNumbers
-    ensures { λ r. ⌜ ((bytes : List ℕ) → orderWith r bytes ≡ orderResult asked bytes) ⌝ }
+    ensures { λ r. ⌜ ((bytes : List ℕ) → orderWith r bytes ≡ orderBeside asked bytes) ⌝ }
 {
     match asked {
         OrderResult::Ordered { operation } => operation_numbers(operation),
@@ -240,7 +241,7 @@ fn order_result(numbers: OrderNumbers, bytes: [u8; 256]) -> TealsettleOrder
 
 // The order that a state asks for.
 pub fn order_of(state: State, image: &[u8]) -> TealsettleOrder
-    ensures { λ r. ⌜ r ≡ orderNumbers (orderAnswer spi state (now (image .entry))) ⌝ }
+    ensures { λ r. ⌜ r ≡ orderResult (orderAnswer spi state (now (image .entry))) ⌝ }
 {
     let answer = state.order(image);
     let asked = answer.result;
@@ -255,7 +256,7 @@ pub fn order_of(state: State, image: &[u8]) -> TealsettleOrder
 
 // An order that is refused with a number.
 pub fn refused_order(number: u32) -> TealsettleOrder
-    ensures { λ r. ⌜ r ≡ orderNumbers (orderRefused number) ⌝ }
+    ensures { λ r. ⌜ r ≡ orderResult (orderRefused number) ⌝ }
 {
     TealsettleOrder {
         number,

@@ -10,8 +10,7 @@ use borrow.Author.Tests.{ne-eqb}
 use lib.Dec.{eqb}
 use lib.ListN.{length, getD, drop, length-drop}
 use lib.Seq.{drop-length}
-use Rattle.framing.specs.Words.{words}
-use Rattle.framing.specs.Internal.{wordAt}
+use Rattle.framing.specs.Words.{words, wordAt}
 use Rattle.base.specs.Question.{ask}
 use Rattle.packets.specs.Header.{headOf, effectOf, CMD, WBSTAR}
 use Rattle.packets.specs.Trace.{Before, other, Mode, header, payload, modeOf, afterHeader, Trace, wrote, desync, iprog, faulty, short, trace, lastWbstar, target, finish, listOf, traceFrom, finishFrom, writesFrom, nthWrite}

@@ -5,8 +5,7 @@ use mathlib.Core.Bool.{Bool, true, false}
 use mathlib.Core.List.{List}
 use lib.ListN.{length, getD, drop}
 use lib.Dec.{eqb}
-use Rattle.framing.specs.Words.{words}
-use Rattle.framing.specs.Internal.{wordAt}
+use Rattle.framing.specs.Words.{words, wordAt}
 use Rattle.packets.specs.Header.{WBSTAR}
 use Rattle.packets.specs.Trace.{Before, opened, other, Trace, wrote, desync, iprog, faulty, short, trace, modeOf, lastWbstar, target}
 use Rattle.scanner.specs.Types.{Write, Finish, Effect, GoesOn, Desync, EffectIprog, FinishEnded, FinishIprog, FinishFault, FinishShort, Scanner, Status, Going, AtWrite, AtEnd, AtIprog, AtFault, AtShort}

@@ -1,15 +1,16 @@
 -- The start of a run and its number of orders, each call as one definition. Document 01, "Questions at the door".
 use Prim.Native.Nat.{ℕ}
-use mathlib.Core.List.{List}
+use mathlib.Core.List.{List, [], _∷_}
 use lib.ListN.{length}
 use Rattle.bootreader.specs.Image.{askImage}
 use Rattle.base.specs.Refusal.{badImageLength}
+use Rattle.base.specs.Answer.{Numbered, result, refusal}
 use Rattle.base.specs.Question.{ask}
 use Rattle.kind.specs.Layout.{imageLengthAllowed, askLayout}
 use Rattle.kind.specs.Kind.{Kind}
 use Rattle.starts.specs.Types.{Layout, StartAnswer, Started, StartRefused, TotalAnswer, Total, TotalRefused}
 use Rattle.orders.specs.Table.{total}
-use Rattle.updater.specs.State.{first}
+use Rattle.updater.specs.State.{stateNumbers, first}
 
 -- Questions 1 to 3, 4 for the area A, and 5, and what is asked next. The image is read as the chip's kind reads it.
 unfoldable pub askRun {ℓ} : {A : Type ℓ} → Kind → (ℕ → ℕ → A) → Layout → List ℕ → A → A
@@ -17,9 +18,19 @@ askRun kind refused layout image rest =
     askLayout refused layout
     (askImage kind (layout .«update_length») refused (λ sync end writes. rest) image)
 
+-- in numbers: the first state
+unfoldable pub startNumbers : StartAnswer → Numbered
+startNumbers (Started state) = result (stateNumbers state)
+startNumbers (StartRefused number place) = refusal number place
+
 -- `start`: questions 1 to 5 (refusals 1 to 6), then the first state
 unfoldable pub startAnswer : Kind → Layout → List ℕ → StartAnswer
 startAnswer kind layout image = askRun kind StartRefused layout image (Started (first layout (length image)))
+
+-- in numbers: how many orders
+unfoldable pub totalNumbers : TotalAnswer → Numbered
+totalNumbers (Total orders) = result (orders ∷ [])
+totalNumbers (TotalRefused number place) = refusal number place
 
 -- `total`: questions 1 to 4, then the number of orders
 unfoldable pub totalAnswer : Layout → ℕ → TotalAnswer

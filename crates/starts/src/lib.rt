@@ -1,9 +1,10 @@
 // The start of a run, and how many orders it has.
 ghost use mathlib.Core.Path.{_≡_};
+ghost use Rattle.base.specs.Answer.{Gives};
 ghost use Rattle.kind.specs.Layout.{layoutAnswer};
 ghost use Rattle.starts.specs.Types.{LayoutAllowed};
 ghost use Rattle.kind.specs.Spi.{spi};
-ghost use Rattle.starts.specs.Starts.{startAnswer, totalAnswer};
+ghost use Rattle.starts.specs.Starts.{startNumbers, startAnswer, totalNumbers, totalAnswer};
 use base::refusal;
 use bootreader::image::ImageAnswer;
 use bootreader::image::check_within;
@@ -51,7 +52,7 @@ fn start_allowed(layout: Layout, image: &[u8]) -> StartAnswer
 
 // Starts a run: its first state; or refusal 1 to 6.
 pub fn start(layout: Layout, image: &[u8]) -> StartAnswer
-    ensures { λ r. ⌜ r ≡ startAnswer spi layout (now (image .entry)) ⌝ }
+    ensures { λ r. ⌜ Gives startNumbers r (startAnswer spi layout (now (image .entry))) ⌝ }
 {
     let allowed = layout.check();
     match allowed {
@@ -78,7 +79,7 @@ fn total_allowed(layout: Layout, image_length: usize) -> TotalAnswer
 
 // How many orders a run has with an image of this length; or refusal 1 to 4.
 pub fn total(layout: Layout, image_length: usize) -> TotalAnswer
-    ensures { λ r. ⌜ r ≡ totalAnswer layout «image_length» ⌝ }
+    ensures { λ r. ⌜ Gives totalNumbers r (totalAnswer layout «image_length») ⌝ }
 {
     let allowed = layout.check();
     match allowed {

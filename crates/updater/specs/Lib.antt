@@ -2,5 +2,6 @@
 pub mod Types
 pub mod State
 pub mod Run
+pub mod Theorems
 -- What only the contracts of functions that are no public calls cite. No promise rests on it.
 pub mod Judging

@@ -1,7 +1,7 @@
 -- A run's state, and its current order. Run, phase and outcome are document 01's terms. Document 01, "Orders of one run" and question 6.
 use Prim.Native.Nat.{ℕ, _+_}
 use mathlib.Core.Bool.{Bool, true, false}
-use mathlib.Core.List.{List}
+use mathlib.Core.List.{List, [], _∷_}
 use lib.Dec.{eqb, leb, ltb}
 use lib.ListN.{getD}
 use Rattle.base.specs.Refusal.{switchNotErased, switchNotOn}
@@ -11,6 +11,10 @@ use Rattle.kind.specs.Kind.{Kind}
 use Rattle.updater.specs.Types.{Layout, State}
 use Rattle.orders.specs.Table.{count, countBefore}
 use Rattle.orders.specs.Orders.{Order, erase, orders}
+
+-- a state in numbers: F, U, A, n, phase, index, outcome
+abbrev pub stateNumbers : State → List ℕ
+stateNumbers state = state .layout .«chip_length» ∷ state .layout .«update_place» ∷ state .layout .«update_length» ∷ state .«image_length» ∷ state .phase ∷ state .index ∷ state .outcome ∷ []
 
 -- How many orders come before a state's.
 abbrev pub position : State → ℕ

@@ -4,10 +4,11 @@
 ghost use mathlib.Core.Path.{_≡_};
 ghost use mathlib.Core.Bool.{true};
 ghost use lib.ListN.{length};
+ghost use Rattle.base.specs.Answer.{Gives};
 ghost use Rattle.kind.specs.Spi.{spi};
 ghost use Rattle.updater.specs.State.{ended, fits, running};
 ghost use Rattle.updater.specs.Judging.{onJudged};
-ghost use Rattle.updater.specs.Run.{finishedCase, finishedAnswer, orderRefused, orderAnswer, stopOf, replyAnswer};
+ghost use Rattle.updater.specs.Run.{finishedNumbers, finishedCase, finishedAnswer, orderNumbers, orderRefused, orderAnswer, replyNumbers, stopOf, replyAnswer};
 use crate::state::State;
 use crate::state::after_order;
 use crate::state::current_bytes;
@@ -134,7 +135,7 @@ impl State {
 
     // That the run goes on, or its outcome; or refusal 7.
     pub fn finished(self) -> FinishedAnswer
-        ensures { λ r. ⌜ r ≡ finishedAnswer self ⌝ }
+        ensures { λ r. ⌜ Gives finishedNumbers r (finishedAnswer self) ⌝ }
     {
         if !fits_image(self, self.image_length) {
             return FinishedAnswer::Refused {
@@ -147,7 +148,7 @@ impl State {
 
     // The order that the state asks for, with the bytes of a program; or refusal 7 or 8. The image is the run's.
     pub fn order(self, image: &[u8]) -> OrderAnswer
-        ensures { λ r. ⌜ r ≡ orderAnswer spi self (now (image .entry)) ⌝ }
+        ensures { λ r. ⌜ Gives orderNumbers r (orderAnswer spi self (now (image .entry))) ⌝ }
     {
         if !fits_image(self, image.len()) {
             return no_order(refusal::BAD_STATE);
@@ -167,7 +168,7 @@ impl State {
     // was given. The image is the run's: it is lent again, so that what a look is to find is always the image's own
     // bytes.
     pub fn reply(self, image: &[u8], reply_kind: u32, bytes: &[u8]) -> ReplyAnswer
-        ensures { λ r. ⌜ r ≡ replyAnswer spi self (now (image .entry)) «reply_kind» (now (bytes .entry)) ⌝ }
+        ensures { λ r. ⌜ Gives replyNumbers r (replyAnswer spi self (now (image .entry)) «reply_kind» (now (bytes .entry))) ⌝ }
     {
         if !fits_image(self, image.len()) {
             return ReplyAnswer::Refused {

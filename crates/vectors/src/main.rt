@@ -9,7 +9,8 @@
 //     check / IMAGE                     what an image loads by itself: sync, end, writes
 //     item I / IMAGE                    its write of an index
 //     items / IMAGE                     all its writes, by a cursor
-//     first / IMAGE                     the first write that a reader of the image gives
+//     packets / IMAGE                   the packets that a reader of the image gives, each with its writes: register,
+//                                       place of the first data word, number of writes, the reader's place after it
 //     layout F U A                      questions 1 to 3
 //     build F U A / IMAGE / BUFFER      a chip with this golden image; the buffer's bytes then
 //     start F U A / IMAGE               a run: its first state
@@ -46,7 +47,7 @@ fn call(case: Case, given: &[u8]) {
             case,
             given,
         ),
-        words::CHECK | words::ITEM | words::ITEMS | words::FIRST => chipcases::call_image(
+        words::CHECK | words::ITEM | words::ITEMS | words::PACKETS => chipcases::call_image(
             case,
             given,
         ),

@@ -11,7 +11,8 @@ use Rattle.packets.specs.Header.{headOf, effectOf}
 use Rattle.packets.specs.Trace.{other, Mode, header, payload, modeOf, afterHeader, Trace, wrote, desync, iprog, faulty, short, trace, listOf, nthWrite}
 use Rattle.scanner.specs.Scan.{scanned, ScanResult, ScanReached, ScanFinished}
 use Rattle.writes.specs.Cursor.{traceAt, remainingWrites, afterWrite, firstOf, stepOf, writesAfterStep, nthStep}
-use Rattle.writes.specs.Types.{Effect, GoesOn, Desync, EffectIprog, Write, WriteAnswer, WriteFound, NoWrite, Cursor, CursorStep, Wrote, Done}
+use Rattle.writes.specs.Theorems.{stepWrite}
+use Rattle.writes.specs.Types.{Effect, GoesOn, Desync, EffectIprog, Write, Cursor, CursorStep, Wrote, Done}
 use Rattle.framing.proofs.Laws.{words-cons}
 
 -- the step that a scanner for the very next write comes to
@@ -67,18 +68,13 @@ step-remaining s c = go (c .remaining) refl
     go zero e = rw (e, stepOf) refl
     go (suc n) e = rw (e, stepOf) (first-after-step s (words (drop (c .at) s)) (c .at) (modeOf (c .left) (c .register) other) n refl)
 
--- the write of a step
-unfoldable pub given : CursorStep → WriteAnswer
-given (Wrote write c) = WriteFound write
-given Done = NoWrite
-
-nth-after-step : (k : ℕ) (s : List ℕ) (step : CursorStep) → given (nthStep s k step) ≡ nthWrite (writesAfterStep s step) k
-unfolding given nthStep nthWrite writesAfterStep
+nth-after-step : (k : ℕ) (s : List ℕ) (step : CursorStep) → stepWrite (nthStep s k step) ≡ nthWrite (writesAfterStep s step) k
+unfolding stepWrite nthStep nthWrite writesAfterStep
 nth-after-step zero s (Wrote w c) = refl
 nth-after-step zero s Done = refl
 nth-after-step (suc k) s (Wrote w c) = nth-after-step k s (stepOf s c) ∙ ap (λ (l : List Write). nthWrite l k) (step-remaining s c)
 nth-after-step (suc k) s Done = refl
 
 -- The k-th step gives the k-th write.
-pub nth-step : (k : ℕ) (s : List ℕ) (c : Cursor) → given (nthStep s k (stepOf s c)) ≡ nthWrite (remainingWrites s c) k
+pub nth-step : (k : ℕ) (s : List ℕ) (c : Cursor) → stepWrite (nthStep s k (stepOf s c)) ≡ nthWrite (remainingWrites s c) k
 nth-step k s c = nth-after-step k s (stepOf s c) ∙ ap (λ (l : List Write). nthWrite l k) (step-remaining s c)

@@ -1,3 +1,7 @@
 -- What crates above may count on of the cursor, beside the contracts.
+use Rattle.writes.specs.Theorems.{CursorSteps}
 pub use Rattle.writes.proofs.CursorLaws.{step-remaining, nth-step}
-unfoldable pub use Rattle.writes.proofs.CursorLaws.{given}
+
+-- The two as one statement.
+pub cursor-steps : CursorSteps
+cursor-steps = record { first = step-remaining; nth = nth-step }

@@ -2,10 +2,11 @@
 use Prim.Native.Nat.{ℕ, zero, suc, _+_}
 use mathlib.Core.List.{List, [], _∷_}
 use lib.ListN.{drop, take}
+use Rattle.base.specs.Answer.{Numbered, result, refusal}
 use Rattle.framing.specs.Words.{words}
 use Rattle.packets.specs.Header.{effectOf}
 use Rattle.packets.specs.Trace.{other, Trace, wrote, desync, iprog, faulty, short, trace, modeOf, listOf}
-use Rattle.writes.specs.Types.{GoesOn, Desync, EffectIprog, Write, Cursor, CursorStep, Wrote, Done}
+use Rattle.writes.specs.Types.{GoesOn, Desync, EffectIprog, Write, Cursor, CursorStep, Wrote, Done, Listing, ListingOpen, ListingRefused}
 
 -- a cursor before the first of `writes` writes of the packets from a place
 abbrev pub cursorAt : ℕ → ℕ → Cursor
@@ -35,6 +36,16 @@ firstOf (desync end) remaining = Done
 firstOf (iprog place) remaining = Done
 firstOf (faulty place) remaining = Done
 firstOf short remaining = Done
+
+-- in numbers: 1, the write's register, word and place, and the cursor after it; 0 where there is none
+unfoldable pub stepNumbers : CursorStep → Numbered
+stepNumbers (Wrote write c) = result (1 ∷ write .register ∷ write .word ∷ write .place ∷ c .at ∷ c .register ∷ c .left ∷ c .remaining ∷ [])
+stepNumbers Done = result (0 ∷ [])
+
+-- a listing in numbers: its cursor's
+unfoldable pub listingNumbers : Listing → Numbered
+listingNumbers (ListingOpen c) = result (c .at ∷ c .register ∷ c .left ∷ c .remaining ∷ [])
+listingNumbers (ListingRefused number place) = refusal number place
 
 -- `Cursor::step`: the first write of the words from where the cursor is, unless none remains
 unfoldable pub stepOf : List ℕ → Cursor → CursorStep

@@ -9,3 +9,5 @@ pub use Rattle.scanner.specs.declared.scan.Status.the-variants.{Going, Reached 
 pub use Rattle.writes.specs.declared.cursor.Cursor.{Cursor}
 pub use Rattle.writes.specs.declared.cursor.CursorStep.{CursorStep}
 pub use Rattle.writes.specs.declared.cursor.CursorStep.the-variants.{Wrote, Done}
+pub use Rattle.writes.specs.declared.cursor.Listing.{Listing}
+pub use Rattle.writes.specs.declared.cursor.Listing.the-variants.{Open as ListingOpen, Refused as ListingRefused}

@@ -1,8 +1,9 @@
 // The writes that a reading lists: one by its index, or all in one pass by a cursor.
 ghost use mathlib.Core.Path.{_≡_};
 ghost use Prim.Native.Nat.{_+_, _^_, _<_};
+ghost use Rattle.base.specs.Answer.{Gives};
 ghost use Rattle.packets.specs.Trace.{nthWrite, writesFrom};
-ghost use Rattle.writes.specs.Cursor.{cursorAt, remainingWrites, stepOf, writesAfterStep, afterWrite};
+ghost use Rattle.writes.specs.Cursor.{cursorAt, remainingWrites, stepNumbers, stepOf, writesAfterStep, afterWrite};
 use crate::reading::scan;
 use crate::reading::write_at;
 use packets::header::Effect;
@@ -49,7 +50,7 @@ impl Cursor {
     // The next write of the bytes that the cursor was opened on. `writesAfterStep` says it of all that are to
     // come: this write, and then those of the cursor handed back, are those of this cursor.
     pub fn step(self, s: &[u8]) -> CursorStep
-        ensures gives { λ r. ⌜ r ≡ stepOf (now (s .entry)) self ⌝ }
+        ensures gives { λ r. ⌜ Gives stepNumbers r (stepOf (now (s .entry)) self) ⌝ }
         ensures lists { λ r. ⌜ writesAfterStep (now (s .entry)) r ≡ remainingWrites (now (s .entry)) self ⌝ }
     {
         if self.remaining == 0 {

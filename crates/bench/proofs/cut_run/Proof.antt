@@ -5,6 +5,7 @@ use mathlib.Core.Bool.{true}
 use mathlib.Core.List.{List}
 use borrow.Author.Needs.{needs}
 use lib.ListN.{length, drop}
+use Rattle.base.proofs.Laws.{gives}
 use Rattle.base.specs.Refusal.{badDamage}
 use Rattle.base.specs.Question.{ask}
 use Rattle.kind.specs.Spi.{spi}
@@ -15,7 +16,7 @@ use Rattle.orders.specs.Orders.{orders}
 use Rattle.updater.specs.State.{first, fits}
 use Rattle.starts.specs.Starts.{startAnswer}
 use Rattle.effects.specs.Progress.{chipAfter, stateAt}
-use Rattle.bench.specs.Bench.{cutAllowed, benchAnswer, benchOutput}
+use Rattle.bench.specs.Bench.{benchNumbers, cutAllowed, benchAnswer, benchOutput}
 use Rattle.updater.proofs.Laws.{first-fits}
 use Rattle.starts.proofs.Laws.{opened}
 use Rattle.bench.proofs.BenchLaws.{onStart, by-start}
@@ -51,7 +52,7 @@ enum-known-started c = search needs
 
 cut-begun-requires : tie.Need-cut-begun-requires
 cut-begun-requires c κs =
-    let b = begun-first (c .before .before .before .before .before .layout .result) (c .before .before .before .before .before .before .before .before .before .args .image .now) _ (sym (c .before .before .before .before .start .ensures) ∙ c .before .before .started .given .1) in
+    let b = begun-first (c .before .before .before .before .before .layout .result) (c .before .before .before .before .before .before .before .before .before .args .image .now) _ (sym (c .before .before .before .before .start .ensures .same) ∙ c .before .before .started .given .1) in
     (b .1, b .2, ap (λ (l : Layout). l .«chip_length») (b .0 ∙ c .before .before .before .before .before .layout .ensures))
 
 enum-known-started-2 : tie.Need-enum-known-started-2
@@ -67,14 +68,14 @@ returns c =
     let chip = a .chip .now in
     let image = a .image .now in
     let damage = a .damage .now in
-    let e = sym (c .before .before .before .before .before .before .before .start .ensures) ∙ c .before .before .before .before .before .started .given .1 in
+    let e = sym (c .before .before .before .before .before .before .before .start .ensures .same) ∙ c .before .before .before .before .before .started .given .1 in
     let b = begun-first (c .before .before .before .before .before .before .before .before .layout .result) image _ e in
     let l = c .before .before .before .before .before .before .before .before .layout .ensures in
     let r = c .before .before .cut-begun .ensures .0
     ∙ ap (λ (x : Layout). cutAnswer x chip image (a .cut) damage) (b .0)
     ∙ by-begun (c .before .before .before .before .before .before .before .before .layout .result) chip image (a .cut) damage _ e
     ∙ ap (λ (x : Layout). benchAnswer spi x chip image (a .cut) damage) l in
-    (r, c .before .before .cut-begun .ensures .1 ∙ ap₂ (λ (y : BenchAnswer) (x : Layout). benchOutput y spi x chip image (a .cut) damage) r (b .0 ∙ l))
+    (gives benchNumbers _ _ r, c .before .before .cut-begun .ensures .1 ∙ ap₂ (λ (y : BenchAnswer) (x : Layout). benchOutput y spi x chip image (a .cut) damage) r (b .0 ∙ l))
 
 returns-2 : tie.Need-returns-2
 unfolding onStart benchOutput
@@ -83,10 +84,10 @@ returns-2 c =
     let chip = a .chip .now in
     let image = a .image .now in
     let damage = a .damage .now in
-    let e = sym (c .before .before .before .start .ensures) ∙ c .before .started2 .given .1 in
+    let e = sym (c .before .before .before .start .ensures .same) ∙ c .before .started2 .given .1 in
     let l = c .before .before .before .before .layout .ensures in
     let r = by-begun (c .before .before .before .before .layout .result) chip image (a .cut) damage _ e ∙ ap (λ (x : Layout). benchAnswer spi x chip image (a .cut) damage) l in
-    (r, ap (λ (y : BenchAnswer). benchOutput y spi (layoutOf (length chip) (a .update-place) (a .update-length)) chip image (a .cut) damage) r)
+    (gives benchNumbers _ _ r, ap (λ (y : BenchAnswer). benchOutput y spi (layoutOf (length chip) (a .update-place) (a .update-length)) chip image (a .cut) damage) r)
 
 pub cut-run-spec : {M : Type 1} → statement M
 cut-run-spec =

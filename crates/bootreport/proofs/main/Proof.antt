@@ -35,10 +35,10 @@ enum-known-answer : tie.Need-enum-known-answer
 enum-known-answer c = search needs
 
 array-share-prefix-out : tie.Need-array-share-prefix-out
-array-share-prefix-out c = rw (c .before .before .before .before .report .ensures .1) (written-within (fileReport _) (c .before .before .before .before .before .before .before .output .result) (c .before .answer .given .0 .0) (sym (c .before .before .before .before .report .ensures .0) ∙ c .before .answer .given .1))
+array-share-prefix-out c = rw (c .before .before .before .before .report .ensures .1) (written-within (fileReport _) (c .before .before .before .before .before .before .before .output .result) (c .before .answer .given .0 .0) (sym (c .before .before .before .before .report .ensures .0 .same) ∙ c .before .answer .given .1))
 
 slice-aggregate-write-all : tie.Need-slice-aggregate-write-all
-slice-aggregate-write-all c = sym (length-take-le _ _ (rw (c .before .before .before .before .before .report .ensures .1) (written-within (fileReport _) (c .before .before .before .before .before .before .before .before .output .result) (c .before .before .answer .given .0 .0) (sym (c .before .before .before .before .before .report .ensures .0) ∙ c .before .before .answer .given .1))))
+slice-aggregate-write-all c = sym (length-take-le _ _ (rw (c .before .before .before .before .before .report .ensures .1) (written-within (fileReport _) (c .before .before .before .before .before .before .before .before .output .result) (c .before .before .answer .given .0 .0) (sym (c .before .before .before .before .before .report .ensures .0 .same) ∙ c .before .before .answer .given .1))))
 
 write-all-requires : tie.Need-write-all-requires
 write-all-requires c κs = search needs

@@ -28,7 +28,7 @@ returns : tie.Need-returns
 unfolding outputOf
 returns c =
     let begun = c .before .before .before .before .before .before .before .before in
-    let a = sym (c .before .before .before .before .check-within .ensures) ∙ c .before .before .enum-told .given .1 in
+    let a = sym (c .before .before .before .before .check-within .ensures .same) ∙ c .before .before .enum-told .given .1 in
     let e = golden-small (begun .args .layout) (begun .args .golden .now) (length (begun .args .out .now)) _ _ _ a (omega arith) in
     (sym e, rw e refl)
 
@@ -36,7 +36,7 @@ write-chip-requires : tie.Need-write-chip-requires
 write-chip-requires c κs =
     let begun = c .before .before .before .before .before .before .before .before .before in
     let u = update-place-range (begun .args .layout .«chip_length») (begun .args .layout .«update_place») (allowed-asks (begun .args .layout) (begun .pre) .1) in
-    let l = accepted-length (begun .args .layout .«update_place» - goldenAt) (begun .args .golden .now) _ _ _ (sym (c .before .before .before .before .before .check-within .ensures) ∙ c .before .before .before .enum-told .given .1) in
+    let l = accepted-length (begun .args .layout .«update_place» - goldenAt) (begun .args .golden .now) _ _ _ (sym (c .before .before .before .before .before .check-within .ensures .same) ∙ c .before .before .before .enum-told .given .1) in
     (omega arith, omega arith)
 
 enum-known-checked : tie.Need-enum-known-checked
@@ -49,7 +49,7 @@ returns-2 : tie.Need-returns-2
 unfolding outputOf
 returns-2 c =
     let begun = c .before .before .before .before .before .before .before .before .before .before .before .before in
-    let a = sym (c .before .before .before .before .before .before .before .before .check-within .ensures) ∙ c .before .before .before .before .before .before .enum-told .given .1 in
+    let a = sym (c .before .before .before .before .before .before .before .before .check-within .ensures .same) ∙ c .before .before .before .before .before .before .enum-told .given .1 in
     let e = golden-built (begun .args .layout) (begun .args .golden .now) (length (begun .args .out .now)) _ _ _ a (omega arith) in
     (sym e, rw e (c .before .before .write-chip .ensures))
 
@@ -57,7 +57,7 @@ returns-3 : tie.Need-returns-3
 unfolding outputOf
 returns-3 c =
     let begun = c .before .before .before .before .before .before .before in
-    let a = sym (c .before .before .before .check-within .ensures) ∙ c .before .checked .given .1 in
+    let a = sym (c .before .before .before .check-within .ensures .same) ∙ c .before .checked .given .1 in
     let e = golden-refused (begun .args .layout) (begun .args .golden .now) (length (begun .args .out .now)) _ _ a in
     (sym e, rw e refl)
 

@@ -38,10 +38,10 @@ returns c =
     let erasing = c .before .before .before .before .before .before .before .before .before .before .before .erase in
     let heading = c .before .before .before .before .before .before .before .before .before .before .before .before .before .warm-boot-words in
     let writing = c .before .before .before .before .before .before .overwrite in
-    let blank : _≡_ {A = List ℕ} _ (overwriteInRange out 0 (layout .«chip_length») (erased (layout .«chip_length»))) = erasing .ensures in
+    let blank : _≡_ {A = List ℕ} _ (overwriteInRange out 0 (layout .«chip_length») (erased (layout .«chip_length»))) = erasing .ensures .1 in
     let words : _≡_ {A = List ℕ} _ (spiWarmBoot (layout .«update_place»)) = heading .ensures in
-    let headed : _≡_ {A = List ℕ} _ (overwriteInRange (erasing .last .0) segment (length (heading .result)) (heading .result)) = writing .ensures in
-    let whole : _≡_ {A = List ℕ} _ (overwriteInRange (writing .last .0) goldenAt (length golden) golden) = c .before .before .overwrite2 .ensures in
+    let headed : _≡_ {A = List ℕ} _ (overwriteInRange (erasing .last .0) segment (length (heading .result)) (heading .result)) = writing .ensures .1 in
+    let whole : _≡_ {A = List ℕ} _ (overwriteInRange (writing .last .0) goldenAt (length golden) golden) = c .before .before .overwrite2 .ensures .1 in
     whole
     ∙ ap (λ (l : List ℕ). overwriteInRange l goldenAt (length golden) golden) (headed ∙ ap₂ (λ (l w : List ℕ). overwriteInRange l segment (length w) w) blank words)
     ∙ built-written layout golden (omega arith) out (omega arith)

@@ -75,7 +75,7 @@ unfolding doneBy
 returns c =
     let a = c .before .before .before .before .before .before .before .before .before .before .args in
     let p = c .before .before .before .before .before .before .before .before .before .before .pre in
-    c .before .before .erase .ensures
+    c .before .before .erase .ensures .1
     ∙ current-done (a .state) (a .image .now) (p .0) (p .1) (a .chip .now) (p .2) _ (sym (the-order (c .before .before .before .before .before .before .before)) ∙ c .before .before .before .before .before .operation .given .1)
 
 same-length-2 : tie.Need-same-length-2
@@ -88,7 +88,7 @@ returns-2 c =
     let p = c .before .before .before .before .before .before .before .before .before .before .before .before .pre in
     let place : ℕ = c .before .before .before .before .before .before .before .operation2 .given .0 .0 in
     let count : ℕ = c .before .before .before .before .before .before .before .operation2 .given .0 .1 .0 in
-    c .before .before .program .ensures
+    c .before .before .program .ensures .1
     ∙ ap (λ (l : List ℕ). overwriteInRange (a .chip .now) place (length (take count l)) (afterProgram (a .chip .now) place (take count l))) (c .before .before .before .before .before .current-bytes .ensures)
     ∙ current-done (a .state) (a .image .now) (p .0) (p .1) (a .chip .now) (p .2) _ (sym (the-order (c .before .before .before .before .before .before .before .before .before)) ∙ c .before .before .before .before .before .before .before .operation2 .given .1)
 

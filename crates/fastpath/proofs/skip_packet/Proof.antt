@@ -3,7 +3,7 @@ use Prim.Native.Nat.{ℕ, _+_, _/_, _%_, _≤_}
 use mathlib.Core.Path.{_≡_, refl, sym, ap, _∙_}
 use native.Mathlib.Omega.{arith}
 use borrow.Author.Tests.{not-false}
-use Rattle.framing.specs.Internal.{wordAt}
+use Rattle.framing.specs.Words.{wordAt}
 use Rattle.packets.specs.Header.{headOf}
 use Rattle.fastpath.specs.Fastpath.{PacketBegins}
 use Rattle.fastpath.specs.Types.{Type1}

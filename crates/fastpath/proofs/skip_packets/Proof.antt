@@ -3,7 +3,7 @@ use Prim.Native.Nat.{_+_, _-_, _≤_}
 use mathlib.Core.Path.{_≡_}
 use native.Mathlib.Omega.{arith}
 use lib.ListN.{length}
-use Rattle.framing.specs.Internal.{wordAt}
+use Rattle.framing.specs.Words.{wordAt}
 use Rattle.fastpath.specs.Fastpath.{SkipKeeps}
 use Rattle.framing.proofs.Laws.{room}
 use Rattle.fastpath.proofs.SkipLaws.{past-none, past-on}

@@ -47,10 +47,10 @@ returns c =
     let begun = c .before .before .before .before .before .before .before .before .before .before .before .before .before .before in
     let buffer = c .before .before .before .before .before .before .before .before .before .before .before .buffer .result in
     let long = sym (c .before .before .before .before .before .before .before .before .before .before .before .buffer .ensures) in
-    let e = rw (c .before .before .before .before .before .before .before .before .before .before .layout .ensures) at (sym (c .before .before .before .before .before .before .before .before .build .ensures .0) ∙ c .before .before .before .before .before .enum-told .given .1) in
+    let e = rw (c .before .before .before .before .before .before .before .before .before .before .layout .ensures) at (sym (c .before .before .before .before .before .before .before .before .build .ensures .0 .same) ∙ c .before .before .before .before .before .enum-told .given .1) in
     let chip = rw (c .before .before .before .before .before .before .before .before .before .before .layout .ensures) at (c .before .before .before .before .before .before .before .before .build .ensures .1 .0) in
     let shown = shows-built (begun .args .golden .now) buffer long e (length (begun .args .out .now)) (begun .args .out .now) in (
-      c .before .before .report .ensures .0 ∙ ap (λ (l : List ℕ). chipAnswer spi l (length (begun .args .out .now))) chip ∙ shown .0,
+      c .before .before .report .ensures .0 .same ∙ ap (λ (l : List ℕ). chipAnswer spi l (length (begun .args .out .now))) chip ∙ shown .0,
       c .before .before .report .ensures .1 ∙ ap (λ (l : List ℕ). chipOutput spi l (begun .args .out .now)) chip ∙ shown .1,
     )
 
@@ -62,9 +62,9 @@ returns-2 c =
     let begun = c .before .before .before .before .before .before .before .before .before .before .before .before .before .before in
     let buffer = c .before .before .before .before .before .before .before .before .before .before .before .buffer .result in
     let long = sym (c .before .before .before .before .before .before .before .before .before .before .before .buffer .ensures) in
-    let e = rw (c .before .before .before .before .before .before .before .before .before .before .layout .ensures) at (sym (c .before .before .before .before .before .before .before .before .build .ensures .0) ∙ c .before .before .before .before .before .built .given .1) in
+    let e = rw (c .before .before .before .before .before .before .before .before .before .before .layout .ensures) at (sym (c .before .before .before .before .before .before .before .before .build .ensures .0 .same) ∙ c .before .before .before .before .before .built .given .1) in
     let line = sym (shows-refused (begun .args .golden .now) buffer long _ _ e) in (
-      c .before .before .report2 .ensures .0 ∙ ap (λ (l : List ℕ). written l (length (begun .args .out .now))) line,
+      c .before .before .report2 .ensures .0 .same ∙ ap (λ (l : List ℕ). written l (length (begun .args .out .now))) line,
       c .before .before .report2 .ensures .1 ∙ ap (λ (l : List ℕ). frontFilled l (begun .args .out .now)) line,
     )
 

@@ -5,11 +5,12 @@ use mathlib.Core.List.{List}
 use native.Mathlib.Omega.{arith}
 use lib.ListN.{length, take}
 use lib.Seq.{length-take-le}
+use Rattle.base.proofs.Laws.{gives}
 use Rattle.mcs.specs.Reading.{Holds, readText}
 use Rattle.mcs.specs.Reader.{readOutput}
 use Rattle.mcs.proofs.Laws.{read-says, refused-says}
 use Rattle.filereport.specs.Filereport.{builtReport}
-use Rattle.report.specs.Refusal.{written}
+use Rattle.report.specs.Refusal.{reportNumbers, written}
 use Rattle.base.specs.Output.{frontFilled}
 use Rattle.filereport.proofs.FileLaws.{reports-long, reports-image, reports-refused}
 use borrow.Author.Needs.{needs}
@@ -26,7 +27,7 @@ returns : tie.Need-returns
 returns c =
     let begun = c .before .before .before .before .before .before .before in
     let line = sym (reports-long (begun .args .text .now) (omega arith)) in (
-      c .before .before .report .ensures .0 ∙ ap (λ (l : List ℕ). written l (length (begun .args .out .now))) line,
+      gives reportNumbers _ _ (c .before .before .report .ensures .0 .same ∙ ap (λ (l : List ℕ). written l (length (begun .args .out .now))) line),
       c .before .before .report .ensures .1 ∙ ap (λ (l : List ℕ). frontFilled l (begun .args .out .now)) line,
     )
 
@@ -54,7 +55,7 @@ module _ (c : tie.After-held) where
   count = c .held .given .0 .0
 
   says : (image : List ℕ) × ((readText text ≡ Holds image) × ((count ≤ length (readOutput text buffer)) × (take count (readOutput text buffer) ≡ image)))
-  says = read-says text buffer count (sym (c .before .before .before .read .ensures .0) ∙ c .held .given .1)
+  says = read-says text buffer count (sym (c .before .before .before .read .ensures .0 .same) ∙ c .held .given .1)
 
 array-share-prefix-image : tie.Need-array-share-prefix-image
 array-share-prefix-image c = rw (c .before .before .before .before .read .ensures .1) (says (c .before) .1 .1 .0)
@@ -80,7 +81,7 @@ returns-2 c =
     let out = held .before .before .before .before .before .before .before .before .before .args .out .now in
     let image = ap (λ (l : List ℕ). take (count held) l) (held .before .before .before .read .ensures .1) ∙ says held .1 .1 .1 in
     let line = ap (λ (l : List ℕ). builtReport l) image ∙ sym (reports-image (text held) (says held .0) (omega arith) (says held .1 .0)) in (
-      c .before .before .built-report .ensures .0 ∙ ap (λ (l : List ℕ). written l (length out)) line,
+      gives reportNumbers _ _ (c .before .before .built-report .ensures .0 ∙ ap (λ (l : List ℕ). written l (length out)) line),
       c .before .before .built-report .ensures .1 ∙ ap (λ (l : List ℕ). frontFilled l out) line,
     )
 
@@ -92,9 +93,9 @@ returns-3 c =
     let begun = c .before .before .before .before .before .before .before .before .before .before .before .before .before .before in
     let buffer = c .before .before .before .before .before .before .before .before .before .before .buffer .result in
     let long : 32768 ≡ length buffer = c .before .before .before .before .before .before .before .before .before .before .buffer .ensures in
-    let e = refused-says (begun .args .text .now) buffer _ _ (sym (c .before .before .before .before .before .before .before .before .read .ensures .0) ∙ c .before .before .before .before .before .held2 .given .1) (omega arith) in
+    let e = refused-says (begun .args .text .now) buffer _ _ (sym (c .before .before .before .before .before .before .before .before .read .ensures .0 .same) ∙ c .before .before .before .before .before .held2 .given .1) (omega arith) in
     let line = sym (reports-refused (begun .args .text .now) _ _ (omega arith) e) in (
-      c .before .before .report2 .ensures .0 ∙ ap (λ (l : List ℕ). written l (length (begun .args .out .now))) line,
+      gives reportNumbers _ _ (c .before .before .report2 .ensures .0 .same ∙ ap (λ (l : List ℕ). written l (length (begun .args .out .now))) line),
       c .before .before .report2 .ensures .1 ∙ ap (λ (l : List ℕ). frontFilled l (begun .args .out .now)) line,
     )
 

@@ -8,9 +8,10 @@ use borrow.Author.Needs.{needs}
 use borrow.Author.Tests.{not-true, not-false, leb-true}
 use lib.ListN.{length, getD, getD-replicate}
 use lib.Seq.{paste, paste-zero, paste-suc, length-paste}
+use Rattle.base.proofs.Laws.{gives}
 use Rattle.base.specs.Question.{ask}
-use Rattle.flash.specs.Flash.{erased, overwriteInRange}
-use Rattle.flash.proofs.FlashLaws.{paste-over, in-range, erased-length}
+use Rattle.flash.specs.Flash.{flashNumbers, flashAnswer, erased, overwriteInRange}
+use Rattle.flash.proofs.FlashLaws.{in-range-done, paste-over, in-range, erased-length}
 use Rattle.flash.proofs.erase.Statement.{statement}
 use Rattle.flash.proofs.erase.Tie as tie
 
@@ -23,9 +24,14 @@ abbrev μ-loop : tie.MeasureT-loop
 lies-within-requires : tie.Need-lies-within-requires Inv-loop μ-loop
 lies-within-requires c κs = search needs
 
+no-room-requires : tie.Need-no-room-requires Inv-loop μ-loop
+no-room-requires c κs = search needs
+
 returns : tie.Need-returns Inv-loop μ-loop
-unfolding overwriteInRange ask
-returns c = rw (sym (c .before .lies-within .ensures) ∙ not-true _ (c .if1 .taken)) refl
+unfolding flashAnswer overwriteInRange ask
+returns c =
+    let outside = sym (c .before .before .lies-within .ensures) ∙ not-true _ (c .before .if1 .taken) in
+    (gives flashNumbers _ _ (rw outside (c .no-room .ensures)), rw outside refl)
 
 -- The span lies within the chip,
 fits : (c : tie.Else1 Inv-loop μ-loop) → c .before .before .before .args .place + c .before .before .before .args .count ≤ length (c .before .before .before .args .chip .now)
@@ -71,7 +77,10 @@ returns-2 c =
     let begun = c .before .before .before .before .before in
     let n = erased-length (begun .args .count) in
     let e : c .before .loop .i ≡ length (erased (begun .args .count)) = omega arith in
-    rw e at (c .before .loop .inv .1) ∙ paste-over (begun .args .chip .now) (begun .args .place) (erased (begun .args .count)) ∙ sym (in-range (begun .args .chip .now) (begun .args .place) (begun .args .count) (erased (begun .args .count)) (fits (c .before .before)))
+    let f = fits (c .before .before) in (
+      gives flashNumbers _ _ (in-range-done (length (begun .args .chip .now)) (begun .args .place) (begun .args .count) f),
+      rw e at (c .before .loop .inv .1) ∙ paste-over (begun .args .chip .now) (begun .args .place) (erased (begun .args .count)) ∙ sym (in-range (begun .args .chip .now) (begun .args .place) (begun .args .count) (erased (begun .args .count)) f),
+    )
 
 pub erase-spec : {M : Type 1} → statement M
 erase-spec =
@@ -80,6 +89,7 @@ erase-spec =
     Inv-loop
     μ-loop
     lies-within-requires
+    no-room-requires
     returns
     loop-holds
     add-chip

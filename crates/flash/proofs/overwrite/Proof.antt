@@ -5,18 +5,24 @@ use native.Mathlib.Omega.{arith}
 use borrow.Author.Needs.{needs}
 use borrow.Author.Tests.{not-true, not-false, leb-true}
 use lib.ListN.{length}
+use Rattle.base.proofs.Laws.{gives}
 use Rattle.base.specs.Question.{ask}
-use Rattle.flash.specs.Flash.{span, overwriteInRange}
-use Rattle.flash.proofs.FlashLaws.{span-length, front-over, in-range}
+use Rattle.flash.specs.Flash.{flashNumbers, flashAnswer, span, overwriteInRange}
+use Rattle.flash.proofs.FlashLaws.{in-range-done, span-length, front-over, in-range}
 use Rattle.flash.proofs.overwrite.Statement.{statement}
 use Rattle.flash.proofs.overwrite.Tie as tie
 
 lies-within-requires : tie.Need-lies-within-requires
 lies-within-requires c κs = search needs
 
+no-room-requires : tie.Need-no-room-requires
+no-room-requires c κs = search needs
+
 returns : tie.Need-returns
-unfolding overwriteInRange ask
-returns c = rw (sym (c .before .lies-within .ensures) ∙ not-true _ (c .if1 .taken)) refl
+unfolding flashAnswer overwriteInRange ask
+returns c =
+    let outside = sym (c .before .before .lies-within .ensures) ∙ not-true _ (c .before .if1 .taken) in
+    (gives flashNumbers _ _ (rw outside (c .no-room .ensures)), rw outside refl)
 
 -- The span lies within the chip.
 fits : (c : tie.Else1) → c .before .before .before .before .args .place + length (c .before .before .before .before .args .bytes .now) ≤ length (c .before .before .before .before .args .chip .now)
@@ -47,14 +53,17 @@ returns-2 c =
     let chip = c .before .before .before .before .before .before .before .before .args .chip .now in
     let place = c .before .before .before .before .before .before .before .before .args .place in
     let bytes = c .before .before .before .before .before .before .before .before .args .bytes .now in
-    front-over chip place bytes _ (c .before .before .copy .ensures .1)
-    ∙ sym (in-range chip place (length bytes) bytes (fits (c .before .before .before .before)))
+    let f = fits (c .before .before .before .before) in (
+      gives flashNumbers _ _ (in-range-done (length chip) place (length bytes) f),
+      front-over chip place bytes _ (c .before .before .copy .ensures .1) ∙ sym (in-range chip place (length bytes) bytes f),
+    )
 
 pub overwrite-spec : {M : Type 1} → statement M
 overwrite-spec =
     tie.close
     (tie.spec
     lies-within-requires
+    no-room-requires
     returns
     sub-copy
     part-copy-start

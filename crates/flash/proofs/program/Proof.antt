@@ -10,9 +10,10 @@ use borrow.Author.Tests.{not-true, not-false, leb-true}
 use lib.Bits.{bitAnd}
 use lib.ListN.{length, getD, set}
 use lib.Seq.{paste, paste-zero, paste-suc, length-paste, drop-paste, getD-drop}
+use Rattle.base.proofs.Laws.{gives}
 use Rattle.base.specs.Question.{ask}
-use Rattle.flash.specs.Flash.{span, overwriteInRange, afterProgram}
-use Rattle.flash.proofs.FlashLaws.{span-at, span-length, paste-over, in-range, cleared-length, cleared-at}
+use Rattle.flash.specs.Flash.{flashNumbers, flashAnswer, span, overwriteInRange, afterProgram}
+use Rattle.flash.proofs.FlashLaws.{in-range-done, span-at, span-length, paste-over, in-range, cleared-length, cleared-at}
 use Rattle.flash.proofs.program.Statement.{statement}
 use Rattle.flash.proofs.program.Tie as tie
 
@@ -25,9 +26,14 @@ abbrev μ-loop : tie.MeasureT-loop
 lies-within-requires : tie.Need-lies-within-requires Inv-loop μ-loop
 lies-within-requires c κs = search needs
 
+no-room-requires : tie.Need-no-room-requires Inv-loop μ-loop
+no-room-requires c κs = search needs
+
 returns : tie.Need-returns Inv-loop μ-loop
-unfolding overwriteInRange ask
-returns c = rw (sym (c .before .lies-within .ensures) ∙ not-true _ (c .if1 .taken)) refl
+unfolding flashAnswer overwriteInRange ask
+returns c =
+    let outside = sym (c .before .before .lies-within .ensures) ∙ not-true _ (c .before .if1 .taken) in
+    (gives flashNumbers _ _ (rw outside (c .no-room .ensures)), rw outside refl)
 
 -- The span lies within the chip,
 fits : (c : tie.Else1 Inv-loop μ-loop) → c .before .before .before .before .args .place + length (c .before .before .before .before .args .bytes .now) ≤ length (c .before .before .before .before .args .chip .now)
@@ -102,8 +108,10 @@ returns-2 c =
     let begun = c .before .before .before .before .before .before in
     let f = fits (c .before .before) in
     let n = programmed-length (begun .args .chip .now) (begun .args .place) (begun .args .bytes .now) f in
-    let e : c .before .loop .i ≡ length (afterProgram (begun .args .chip .now) (begun .args .place) (begun .args .bytes .now)) = omega arith in
-    rw e at (c .before .loop .inv .1) ∙ paste-over (begun .args .chip .now) (begun .args .place) (afterProgram (begun .args .chip .now) (begun .args .place) (begun .args .bytes .now)) ∙ sym (in-range (begun .args .chip .now) (begun .args .place) (length (begun .args .bytes .now)) (afterProgram (begun .args .chip .now) (begun .args .place) (begun .args .bytes .now)) f)
+    let e : c .before .loop .i ≡ length (afterProgram (begun .args .chip .now) (begun .args .place) (begun .args .bytes .now)) = omega arith in (
+      gives flashNumbers _ _ (in-range-done (length (begun .args .chip .now)) (begun .args .place) (length (begun .args .bytes .now)) f),
+      rw e at (c .before .loop .inv .1) ∙ paste-over (begun .args .chip .now) (begun .args .place) (afterProgram (begun .args .chip .now) (begun .args .place) (begun .args .bytes .now)) ∙ sym (in-range (begun .args .chip .now) (begun .args .place) (length (begun .args .bytes .now)) (afterProgram (begun .args .chip .now) (begun .args .place) (begun .args .bytes .now)) f),
+    )
 
 pub program-spec : {M : Type 1} → statement M
 program-spec =
@@ -112,6 +120,7 @@ program-spec =
     Inv-loop
     μ-loop
     lies-within-requires
+    no-room-requires
     returns
     loop-holds
     add-chip

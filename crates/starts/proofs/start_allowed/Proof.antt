@@ -19,12 +19,12 @@ enum-known-checked c = search needs
 returns : tie.Need-returns
 unfolding onLayout onAnswer
 returns c =
-    start-by (c .before .before .before .before .args .layout) (c .before .before .before .before .args .image .now) _ _ (c .before .before .before .before .pre) (sym (c .before .before .check-within .ensures) ∙ c .enum-told .given .1)
+    start-by (c .before .before .before .before .args .layout) (c .before .before .before .before .args .image .now) _ _ (c .before .before .before .before .pre) (sym (c .before .before .check-within .ensures .same) ∙ c .enum-told .given .1)
 
 returns-2 : tie.Need-returns-2
 unfolding onLayout onAnswer
 returns-2 c =
-    start-by (c .before .before .before .before .before .args .layout) (c .before .before .before .before .before .args .image .now) _ _ (c .before .before .before .before .before .pre) (sym (c .before .before .before .check-within .ensures) ∙ c .before .checked .given .1)
+    start-by (c .before .before .before .before .before .args .layout) (c .before .before .before .before .before .args .image .now) _ _ (c .before .before .before .before .before .pre) (sym (c .before .before .before .check-within .ensures .same) ∙ c .before .checked .given .1)
 
 pub start-allowed-spec : {M : Type 1} → statement M
 start-allowed-spec = tie.close (tie.spec check-within-requires enum-told enum-known-checked returns returns-2)

@@ -1,8 +1,9 @@
 -- `boot::answer` meets its contract.
 use borrow.Author.Tests.{not-true, not-false}
 use mathlib.Core.Path.{refl, sym, _∙_}
+use Rattle.base.proofs.Laws.{gives}
 use Rattle.base.specs.Question.{ask}
-use Rattle.bootreader.specs.Boot.{bootAnswer, bootCase}
+use Rattle.bootreader.specs.Boot.{bootNumbers, bootAnswer, bootCase}
 use borrow.Author.Needs.{needs}
 use Rattle.bootreader.proofs.boot.answer.Statement.{statement}
 use Rattle.bootreader.proofs.boot.answer.Tie as tie
@@ -12,7 +13,7 @@ chip-length-allowed-requires c κs = search needs
 
 returns : tie.Need-returns
 unfolding bootAnswer ask
-returns c = rw (sym (c .before .chip-length-allowed .ensures) ∙ not-true _ (c .if1 .taken)) refl
+returns c = gives bootNumbers _ _ (rw (sym (c .before .chip-length-allowed .ensures) ∙ not-true _ (c .if1 .taken)) refl)
 
 read-chip-requires : tie.Need-read-chip-requires
 read-chip-requires c κs = search needs
@@ -28,15 +29,15 @@ enum-known-outcome-3 c = search needs
 
 returns-2 : tie.Need-returns-2
 unfolding bootAnswer ask bootCase
-returns-2 c = rw (sym (c .before .before .before .before .before .chip-length-allowed .ensures) ∙ not-false _ (c .before .before .before .before .if1 .left), sym (c .before .before .before .read-chip .ensures) ∙ c .before .outcome .given .1) refl
+returns-2 c = gives bootNumbers _ _ (rw (sym (c .before .before .before .before .before .chip-length-allowed .ensures) ∙ not-false _ (c .before .before .before .before .if1 .left), sym (c .before .before .before .read-chip .ensures) ∙ c .before .outcome .given .1) refl)
 
 returns-3 : tie.Need-returns-3
 unfolding bootAnswer ask bootCase
-returns-3 c = rw (sym (c .before .before .before .before .before .chip-length-allowed .ensures) ∙ not-false _ (c .before .before .before .before .if1 .left), sym (c .before .before .before .read-chip .ensures) ∙ c .before .outcome2 .given .1) refl
+returns-3 c = gives bootNumbers _ _ (rw (sym (c .before .before .before .before .before .chip-length-allowed .ensures) ∙ not-false _ (c .before .before .before .before .if1 .left), sym (c .before .before .before .read-chip .ensures) ∙ c .before .outcome2 .given .1) refl)
 
 returns-4 : tie.Need-returns-4
 unfolding bootAnswer ask bootCase
-returns-4 c = rw (sym (c .before .before .before .before .before .chip-length-allowed .ensures) ∙ not-false _ (c .before .before .before .before .if1 .left), sym (c .before .before .before .read-chip .ensures) ∙ c .before .outcome3 .given .1) refl
+returns-4 c = gives bootNumbers _ _ (rw (sym (c .before .before .before .before .before .chip-length-allowed .ensures) ∙ not-false _ (c .before .before .before .before .if1 .left), sym (c .before .before .before .read-chip .ensures) ∙ c .before .outcome3 .given .1) refl)
 
 pub answer-spec : {M : Type 1} → statement M
 answer-spec =

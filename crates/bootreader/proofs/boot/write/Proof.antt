@@ -2,13 +2,14 @@
 use borrow.Author.Tests.{not-true, not-false}
 use mathlib.Core.Bool.{false}
 use mathlib.Core.Logic.{⊎-elim}
+use Rattle.base.proofs.Laws.{gives}
 use Rattle.kind.specs.Spi.{spi}
 use Rattle.bootreader.specs.Types.{Outcome, Loaded, OutcomeIprog, Stuck, NoWrite}
 use mathlib.Core.Path.{_≡_, refl, sym, _∙_}
 use native.Mathlib.Omega.{arith}
 use Rattle.base.specs.Question.{ask}
 use Rattle.configreader.specs.Configreader.{listed}
-use Rattle.packets.specs.Trace.{nthWrite}
+use Rattle.packets.specs.Trace.{writeNumbers, nthWrite}
 use Rattle.bootreader.specs.Boot.{chipWrite}
 use Rattle.configreader.proofs.Laws.{Proper, proper}
 use borrow.Author.Needs.{needs}
@@ -20,7 +21,7 @@ chip-length-allowed-requires c κs = search needs
 
 returns : tie.Need-returns
 unfolding chipWrite ask
-returns c = rw (sym (c .before .chip-length-allowed .ensures) ∙ not-true _ (c .if1 .taken)) refl
+returns c = gives writeNumbers _ _ (rw (sym (c .before .chip-length-allowed .ensures) ∙ not-true _ (c .if1 .taken)) refl)
 
 read-chip-requires : tie.Need-read-chip-requires
 read-chip-requires c κs = search needs
@@ -30,7 +31,7 @@ enum-known-outcome c = search needs
 
 returns-2 : tie.Need-returns-2
 unfolding chipWrite ask listed nthWrite
-returns-2 c = go (c .before .read-chip .result) refl
+returns-2 c = gives writeNumbers _ _ (go (c .before .read-chip .result) refl)
   where
     go : (o : Outcome) → c .before .read-chip .result ≡ o → NoWrite ≡ chipWrite spi (c .before .before .before .before .before .args .chip .now) (c .before .before .before .before .before .args .i)
     go (Loaded sync end writes jumped) e = absurd (⊎-elim (λ z. omega arith) (λ z. omega arith) (rw e at (c .match .keys2)))
@@ -47,7 +48,7 @@ nth-from-requires c κs = search needs
 
 returns-3 : tie.Need-returns-3
 unfolding chipWrite ask listed
-returns-3 c = rw (sym (c .before .before .before .before .before .before .chip-length-allowed .ensures) ∙ not-false _ (c .before .before .before .before .before .if1 .left), sym (c .before .before .before .before .read-chip .ensures) ∙ c .before .before .outcome .given .1) (c .nth-from .ensures)
+returns-3 c = gives writeNumbers _ _ (rw (sym (c .before .before .before .before .before .before .chip-length-allowed .ensures) ∙ not-false _ (c .before .before .before .before .before .if1 .left), sym (c .before .before .before .before .read-chip .ensures) ∙ c .before .before .outcome .given .1) (c .nth-from .ensures))
 
 pub write-spec : {M : Type 1} → statement M
 write-spec =

@@ -2,6 +2,8 @@
 use borrow.Author.Tests.{not-true, not-false}
 use mathlib.Core.Bool.{false}
 use mathlib.Core.Logic.{⊎-elim}
+use Rattle.base.proofs.Laws.{gives}
+use Rattle.writes.specs.Cursor.{listingNumbers}
 use Rattle.kind.specs.Spi.{spi}
 use Rattle.bootreader.specs.Types.{Outcome, Loaded, OutcomeIprog, Stuck, ListingOpen}
 use mathlib.Core.Path.{_≡_, refl, sym, ap, _∙_}
@@ -18,7 +20,7 @@ chip-length-allowed-requires c κs = search needs
 
 returns : tie.Need-returns
 unfolding chipListing ask
-returns c = rw (sym (c .before .chip-length-allowed .ensures) ∙ not-true _ (c .if1 .taken)) refl
+returns c = gives listingNumbers _ _ (rw (sym (c .before .chip-length-allowed .ensures) ∙ not-true _ (c .if1 .taken)) refl)
 
 read-chip-requires : tie.Need-read-chip-requires
 read-chip-requires c κs = search needs
@@ -31,7 +33,7 @@ new-requires c κs = search needs
 
 returns-2 : tie.Need-returns-2
 unfolding chipListing ask cursorOf
-returns-2 c = go (c .before .before .read-chip .result) refl
+returns-2 c = gives listingNumbers _ _ (go (c .before .before .read-chip .result) refl)
   where
     go : (o : Outcome) → c .before .before .read-chip .result ≡ o → ListingOpen (c .new .result) ≡ chipListing spi (c .before .before .before .before .before .before .args .chip .now)
     go (Loaded sync end writes jumped) e = absurd (⊎-elim (λ z. omega arith) (λ z. omega arith) (rw e at (c .before .match .keys2)))
@@ -48,7 +50,7 @@ new-requires-2 c κs = search needs
 
 returns-3 : tie.Need-returns-3
 unfolding chipListing ask cursorOf
-returns-3 c = rw (sym (c .before .before .before .before .before .before .chip-length-allowed .ensures) ∙ not-false _ (c .before .before .before .before .before .if1 .left), sym (c .before .before .before .before .read-chip .ensures) ∙ c .before .before .outcome .given .1) (ap ListingOpen (c .new2 .ensures))
+returns-3 c = gives listingNumbers _ _ (rw (sym (c .before .before .before .before .before .before .chip-length-allowed .ensures) ∙ not-false _ (c .before .before .before .before .before .if1 .left), sym (c .before .before .before .before .read-chip .ensures) ∙ c .before .before .outcome .given .1) (ap ListingOpen (c .new2 .ensures)))
 
 pub writes-spec : {M : Type 1} → statement M
 writes-spec =

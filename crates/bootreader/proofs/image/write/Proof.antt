@@ -2,8 +2,9 @@
 use mathlib.Core.Path.{sym, ap, _∙_}
 use mathlib.Core.List.{List}
 use native.Mathlib.Omega.{arith}
+use Rattle.base.proofs.Laws.{gives}
 use Rattle.bootreader.proofs.AnswerLaws.{onAnswer, write-by-answer, accepted-lists, accepted-sync}
-use Rattle.packets.specs.Trace.{nthWrite}
+use Rattle.packets.specs.Trace.{writeNumbers, nthWrite}
 use Rattle.bootreader.specs.Image.{longestImage, imageAnswer}
 use Rattle.bootreader.specs.Types.{Write}
 use borrow.Author.Needs.{needs}
@@ -18,7 +19,7 @@ enum-known-answer c = search needs
 
 add-nth-from : tie.Need-add-nth-from
 unfolding imageAnswer
-add-nth-from c = let l = accepted-sync longestImage (c .before .before .before .before .before .args .image .now) _ _ _ (sym (c .before .before .before .check .ensures) ∙ c .before .answer .given .1) in omega (arith, c .before .before .before .before .before .good)
+add-nth-from c = let l = accepted-sync longestImage (c .before .before .before .before .before .args .image .now) _ _ _ (sym (c .before .before .before .check .ensures .same) ∙ c .before .answer .given .1) in omega (arith, c .before .before .before .before .before .good)
 
 nth-from-requires : tie.Need-nth-from-requires
 nth-from-requires c κs = search needs
@@ -31,16 +32,16 @@ unfolding onAnswer
 returns c =
     let image = c .before .before .before .before .before .before .args .image .now in
     let i = c .before .before .before .before .before .before .args .i in
-    let checked = sym (c .before .before .before .before .check .ensures) ∙ c .before .before .answer .given .1 in
-    c .nth-from .ensures
+    let checked = sym (c .before .before .before .before .check .ensures .same) ∙ c .before .before .answer .given .1 in
+    gives writeNumbers _ _ (c .nth-from .ensures
     ∙ ap (λ (l : List Write). nthWrite l i) (sym (accepted-lists image _ _ _ checked))
-    ∙ (rw checked at (write-by-answer image i))
+    ∙ (rw checked at (write-by-answer image i)))
 
 returns-2 : tie.Need-returns-2
 unfolding onAnswer
 returns-2 c =
-    rw (sym (c .before .before .before .check .ensures) ∙ c .before .answer2 .given .1) at
-    (write-by-answer (c .before .before .before .before .before .args .image .now) (c .before .before .before .before .before .args .i))
+    gives writeNumbers _ _ (rw (sym (c .before .before .before .check .ensures .same) ∙ c .before .answer2 .given .1) at
+    (write-by-answer (c .before .before .before .before .before .args .image .now) (c .before .before .before .before .before .args .i)))
 
 pub write-spec : {M : Type 1} → statement M
 write-spec =

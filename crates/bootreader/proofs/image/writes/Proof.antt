@@ -2,8 +2,9 @@
 use Prim.Native.Nat.{_+_}
 use mathlib.Core.Path.{sym, ap, _∙_}
 use native.Mathlib.Omega.{arith}
+use Rattle.base.proofs.Laws.{gives}
 use Rattle.bootreader.proofs.AnswerLaws.{onAnswer, by-answer, accepted-sync}
-use Rattle.writes.specs.Cursor.{cursorAt}
+use Rattle.writes.specs.Cursor.{listingNumbers, cursorAt}
 use Rattle.bootreader.specs.Image.{longestImage, imageAnswer, imageListing}
 use Rattle.bootreader.specs.Types.{ListingOpen, ListingRefused}
 use borrow.Author.Needs.{needs}
@@ -18,7 +19,7 @@ enum-known-answer c = search needs
 
 add-new : tie.Need-add-new
 unfolding imageAnswer
-add-new c = let l = accepted-sync longestImage (c .before .before .before .before .before .args .image .now) _ _ _ (sym (c .before .before .before .check .ensures) ∙ c .before .answer .given .1) in omega (arith, c .before .before .before .before .before .good)
+add-new c = let l = accepted-sync longestImage (c .before .before .before .before .before .args .image .now) _ _ _ (sym (c .before .before .before .check .ensures .same) ∙ c .before .answer .given .1) in omega (arith, c .before .before .before .before .before .good)
 
 new-requires : tie.Need-new-requires
 new-requires c κs = search needs
@@ -28,11 +29,11 @@ enum-known-answer-2 c = search needs
 
 returns : tie.Need-returns
 unfolding imageAnswer imageListing onAnswer
-returns c = ap ListingOpen (c .new .ensures) ∙ rw (sym (c .before .before .before .before .check .ensures) ∙ c .before .before .answer .given .1) at (by-answer ListingRefused (λ sync end writes. ListingOpen (cursorAt (sync + 4) writes)) longestImage (c .before .before .before .before .before .before .args .image .now))
+returns c = gives listingNumbers _ _ (ap ListingOpen (c .new .ensures) ∙ rw (sym (c .before .before .before .before .check .ensures .same) ∙ c .before .before .answer .given .1) at (by-answer ListingRefused (λ sync end writes. ListingOpen (cursorAt (sync + 4) writes)) longestImage (c .before .before .before .before .before .before .args .image .now)))
 
 returns-2 : tie.Need-returns-2
 unfolding imageAnswer imageListing onAnswer
-returns-2 c = rw (sym (c .before .before .before .check .ensures) ∙ c .before .answer2 .given .1) at (by-answer ListingRefused (λ sync end writes. ListingOpen (cursorAt (sync + 4) writes)) longestImage (c .before .before .before .before .before .args .image .now))
+returns-2 c = gives listingNumbers _ _ (rw (sym (c .before .before .before .check .ensures .same) ∙ c .before .answer2 .given .1) at (by-answer ListingRefused (λ sync end writes. ListingOpen (cursorAt (sync + 4) writes)) longestImage (c .before .before .before .before .before .args .image .now)))
 
 pub writes-spec : {M : Type 1} → statement M
 writes-spec =

@@ -11,7 +11,8 @@ use Rattle.base.specs.Question.{ask}
 use Rattle.kind.proofs.Laws.{chip-length-range}
 use Rattle.kind.specs.Layout.{switchAt}
 use Rattle.kind.specs.Spi.{spiOn}
-use Rattle.chip.specs.Switch.{switchCase, switchAnswer}
+use Rattle.base.proofs.Laws.{gives}
+use Rattle.chip.specs.Switch.{switchNumbers, switchCase, switchAnswer}
 use Rattle.chip.proofs.SwitchLaws.{is-on, is-off}
 use Rattle.chip.proofs.switch.read.Statement.{statement}
 use Rattle.chip.proofs.switch.read.Tie as tie
@@ -27,7 +28,7 @@ chip-length-allowed-requires c κs = search needs
 
 returns : tie.Need-returns Inv-loop μ-loop
 unfolding switchAnswer ask
-returns c = rw (sym (c .before .chip-length-allowed .ensures) ∙ not-true _ (c .if1 .taken)) refl
+returns c = gives switchNumbers _ _ (rw (sym (c .before .chip-length-allowed .ensures) ∙ not-true _ (c .if1 .taken)) refl)
 
 loop-holds : tie.Need-loop-holds Inv-loop μ-loop
 loop-holds c = (omega arith, λ j h. absurd (omega arith))
@@ -44,7 +45,7 @@ array-read-if2 c = omega arith
 returns-2 : tie.Need-returns-2 Inv-loop μ-loop
 unfolding switchAnswer switchCase ask
 returns-2 c =
-    rw (sym (c .before .before .before .before .before .chip-length-allowed .ensures) ∙ not-false _ (c .before .before .before .before .if1 .left), is-off (c .before .before .before .before .before .before .before .args .chip .now) (c .before .before .before .loop .i) (omega arith) (c .if2 .taken)) refl
+    gives switchNumbers _ _ (rw (sym (c .before .before .before .before .before .chip-length-allowed .ensures) ∙ not-false _ (c .before .before .before .before .if1 .left), is-off (c .before .before .before .before .before .before .before .args .chip .now) (c .before .before .before .loop .i) (omega arith) (c .if2 .taken)) refl)
 
 add-i : tie.Need-add-i Inv-loop μ-loop
 add-i c = omega arith
@@ -64,7 +65,7 @@ unfolding switchAnswer switchCase ask
 returns-3 c =
     let l = chip-length-range _ (sym (c .before .before .before .chip-length-allowed .ensures) ∙ not-false _ (c .before .before .if1 .left)) in
     let four : c .before .loop .i ≡ 4 = omega arith in
-    rw (sym (c .before .before .before .chip-length-allowed .ensures) ∙ not-false _ (c .before .before .if1 .left), is-on (c .before .before .before .before .before .args .chip .now) (omega arith) (λ j h. c .before .loop .inv .1 j (omega arith))) refl
+    gives switchNumbers _ _ (rw (sym (c .before .before .before .chip-length-allowed .ensures) ∙ not-false _ (c .before .before .if1 .left), is-on (c .before .before .before .before .before .args .chip .now) (omega arith) (λ j h. c .before .loop .inv .1 j (omega arith))) refl)
 
 pub read-spec : {M : Type 1} → statement M
 read-spec =

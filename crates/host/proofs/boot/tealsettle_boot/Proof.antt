@@ -23,7 +23,7 @@ returns c =
     c .boot-result .ensures
     ∙ ap bootResult
     (⊎-elim
-    (λ w. rw (asked ∙ w .0 .taken) (w .2 ∙ w .1 .ensures))
+    (λ w. rw (asked ∙ w .0 .taken) (w .2 ∙ w .1 .ensures .same))
     (λ w. rw (asked ∙ w .0 .left) (w .1))
     (c .before .if1 .came))
 

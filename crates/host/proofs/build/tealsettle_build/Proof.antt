@@ -36,7 +36,7 @@ returns c =
       c .build-result .ensures
           ∙ ap buildResult
           (⊎-elim
-          (λ w. rw (asked ∙ w .0 .taken) (w .7 ∙ w .3 .ensures .0 ∙ ap (λ given. buildAnswer spi given golden (length buffer)) (w .1 .ensures)))
+          (λ w. rw (asked ∙ w .0 .taken) (w .7 ∙ w .3 .ensures .0 .same ∙ ap (λ given. buildAnswer spi given golden (length buffer)) (w .1 .ensures)))
           (λ w. rw (asked ∙ w .0 .left) (w .2))
           (c .before .if1 .came)),
       ⊎-elim

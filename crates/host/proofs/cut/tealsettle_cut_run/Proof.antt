@@ -26,7 +26,7 @@ returns c =
       c .bench-result .ensures
           ∙ ap benchResult
           (⊎-elim
-          (λ w. rw (asked ∙ w .0 .taken) (w .6 ∙ w .2 .ensures .0))
+          (λ w. rw (asked ∙ w .0 .taken) (w .6 ∙ w .2 .ensures .0 .same))
           (λ w. rw (asked ∙ w .0 .left) (w .2))
           (c .before .if1 .came)),
       ⊎-elim (λ w. rw (asked ∙ w .0 .taken) (w .5 ∙ w .2 .ensures .1)) (λ w. rw (asked ∙ w .0 .left) (w .1)) (c .before .if1 .came),

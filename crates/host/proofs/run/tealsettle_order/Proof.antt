@@ -1,5 +1,5 @@
 -- `tealsettle_order` meets its contract.
-use Rattle.runresults.specs.Run.{orderNumbers}
+use Rattle.runresults.specs.Run.{orderResult}
 use Rattle.base.specs.Question.{ask}
 use Rattle.updater.specs.Run.{orderAnswer}
 use Rattle.kind.specs.Spi.{spi}
@@ -28,7 +28,7 @@ order-of-requires c κs = search needs
 
 returns-2 : tie.Need-returns-2
 unfolding ask
-returns-2 c = rw (sym (c .before .before .before .has-number .ensures) ∙ not-false _ (c .before .before .if1 .left)) (c .order-of .ensures ∙ ap (λ given. orderNumbers (orderAnswer spi given (now (c .before .before .before .before .before .args .image)))) (c .before .state-of .ensures))
+returns-2 c = rw (sym (c .before .before .before .has-number .ensures) ∙ not-false _ (c .before .before .if1 .left)) (c .order-of .ensures ∙ ap (λ given. orderResult (orderAnswer spi given (now (c .before .before .before .before .before .args .image)))) (c .before .state-of .ensures))
 
 pub tealsettle-order-spec : {M : Type 1} → statement M
 tealsettle-order-spec = tie.close (tie.spec has-number-requires refused-order-requires returns state-of-requires order-of-requires returns-2)

@@ -2,7 +2,7 @@
 use Rattle.runresults.specs.Internal.{replied}
 use Rattle.runresults.specs.Run.{replyResult}
 use Rattle.base.specs.Question.{ask}
-use Rattle.updater.specs.Run.{replyAnswer}
+use Rattle.updater.specs.Run.{replyNumbers, replyAnswer}
 use Rattle.kind.specs.Spi.{spi}
 use borrow.Author.Tests.{not-true, not-false}
 use mathlib.Core.Path.{sym, ap, _∙_}
@@ -21,7 +21,7 @@ replied-requires : tie.Need-replied-requires
 replied-requires c κs = search needs
 
 returns : tie.Need-returns
-unfolding ask replyResult
+unfolding ask replyResult replyNumbers
 returns c = rw (sym (c .before .before .has-number .ensures) ∙ not-true _ (c .before .if1 .taken)) (c .replied .ensures ∙ ap (replied 7 0 0) (c .before .before .before .state-of .ensures))
 
 reply-of-requires : tie.Need-reply-of-requires

@@ -29,7 +29,7 @@ returns c =
     c .start-result .ensures
     ∙ ap startResult
     (⊎-elim
-    (λ w. rw (asked ∙ w .0 .taken) (w .3 ∙ w .2 .ensures ∙ ap (λ given. startAnswer spi given (now (c .before .before .before .before .args .image))) (w .1 .ensures)))
+    (λ w. rw (asked ∙ w .0 .taken) (w .3 ∙ w .2 .ensures .same ∙ ap (λ given. startAnswer spi given (now (c .before .before .before .before .args .image))) (w .1 .ensures)))
     (λ w. rw (asked ∙ w .0 .left) (w .1))
     (c .before .if1 .came))
 

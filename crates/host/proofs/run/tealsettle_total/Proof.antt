@@ -27,7 +27,7 @@ returns c =
     c .total-result .ensures
     ∙ ap totalResult
     (⊎-elim
-    (λ w. rw (asked ∙ w .0 .taken) (w .3 ∙ w .2 .ensures ∙ ap (λ given. totalAnswer given (c .before .before .before .args .n)) (w .1 .ensures)))
+    (λ w. rw (asked ∙ w .0 .taken) (w .3 ∙ w .2 .ensures .same ∙ ap (λ given. totalAnswer given (c .before .before .before .args .n)) (w .1 .ensures)))
     (λ w. rw (asked ∙ w .0 .left) (w .1))
     (c .before .if1 .came))
 

@@ -15,7 +15,7 @@ same-length : tie.Need-same-length
 same-length c = search needs
 
 returns : tie.Need-returns
-returns c = (c .read-result .ensures ∙ ap readResult (c .before .before .before .read .ensures .0), c .before .before .before .read .ensures .1)
+returns c = (c .read-result .ensures ∙ ap readResult (c .before .before .before .read .ensures .0 .same), c .before .before .before .read .ensures .1)
 
 pub tealsettle-mcs-read-spec : {M : Type 1} → statement M
 tealsettle-mcs-read-spec = tie.close (tie.spec read-requires read-result-requires same-length returns)

@@ -1,4 +1,6 @@
 -- `refusal::report` meets its contract.
+use Rattle.base.proofs.Laws.{gives}
+use Rattle.report.specs.Refusal.{reportNumbers}
 use Rattle.fields.proofs.Laws.{Put}
 use Rattle.report.proofs.AnswerLaws.{no-room, put-answer}
 use Rattle.reportlines.specs.Reportlines.{refusedLine}
@@ -17,7 +19,7 @@ returns : tie.Need-returns
 returns c =
     let line = refusedLine (c .before .before .before .args .number) (c .before .before .before .args .place) in
     let answer = no-room line (c .before .before .before .args .out .now) (omega arith) in
-    (sym (answer .0), sym (answer .1))
+    (gives reportNumbers _ _ (sym (answer .0)), sym (answer .1))
 
 put-refused-requires : tie.Need-put-refused-requires
 put-refused-requires c κs = search needs
@@ -35,7 +37,7 @@ returns-2 c =
       is = c .before .before .put-refused .ensures ∙ ap (λ (k : ℕ). paste (begun .args .out .now) 0 line k) (sym (c .before .before .before .before .before .refused-length .ensures));
     } in
     let answer = put-answer put in
-    (sym (answer .0), sym (answer .1))
+    (gives reportNumbers _ _ (sym (answer .0)), sym (answer .1))
 
 pub report-spec : {M : Type 1} → statement M
 report-spec =

@@ -1,4 +1,5 @@
 -- `boot_result` meets its contract.
+use Rattle.bootreader.specs.Boot.{bootNumbers}
 use Rattle.results.specs.Boot.{bootResult}
 use mathlib.Core.Bool.{Bool, true, false, cond}
 use mathlib.Core.Path.{_≡_, refl}
@@ -25,15 +26,15 @@ as-number true = refl
 as-number false = refl
 
 returns : tie.Need-returns
-unfolding bootResult
+unfolding bootResult bootNumbers
 returns c = rw (c .before .answer .given .1, as-number (c .before .answer .given .0 .1 .1 .1 .0)) refl
 
 returns-2 : tie.Need-returns-2
-unfolding bootResult
+unfolding bootResult bootNumbers
 returns-2 c = rw (c .before .answer2 .given .1) refl
 
 returns-3 : tie.Need-returns-3
-unfolding bootResult
+unfolding bootResult bootNumbers
 returns-3 c = rw (c .before .answer3 .given .1) refl
 
 pub boot-result-spec : {M : Type 1} → statement M

@@ -1,4 +1,5 @@
 -- `build_result` meets its contract.
+use Rattle.builder.specs.Builder.{buildNumbers}
 use Rattle.results.specs.Build.{buildResult}
 use mathlib.Core.Path.{refl}
 use borrow.Author.Needs.{needs}
@@ -12,11 +13,11 @@ enum-known-answer : tie.Need-enum-known-answer
 enum-known-answer c = search needs
 
 returns : tie.Need-returns
-unfolding buildResult
+unfolding buildResult buildNumbers
 returns c = rw (c .enum-told .given .1) refl
 
 returns-2 : tie.Need-returns-2
-unfolding buildResult
+unfolding buildResult buildNumbers
 returns-2 c = rw (c .before .answer .given .1) refl
 
 pub build-result-spec : {M : Type 1} → statement M

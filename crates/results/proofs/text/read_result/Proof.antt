@@ -1,4 +1,5 @@
 -- `read_result` meets its contract.
+use Rattle.mcs.specs.Reader.{readNumbers}
 use Rattle.results.specs.Text.{readResult}
 use mathlib.Core.Path.{refl}
 use borrow.Author.Needs.{needs}
@@ -12,11 +13,11 @@ enum-known-answer-2 : tie.Need-enum-known-answer-2
 enum-known-answer-2 c = search needs
 
 returns : tie.Need-returns
-unfolding readResult
+unfolding readResult readNumbers
 returns c = rw (c .before .answer .given .1) refl
 
 returns-2 : tie.Need-returns-2
-unfolding readResult
+unfolding readResult readNumbers
 returns-2 c = rw (c .before .answer2 .given .1) refl
 
 pub read-result-spec : {M : Type 1} → statement M

@@ -1,4 +1,5 @@
 -- `order_numbers` meets its contract.
+use Rattle.updater.specs.Run.{orderResultNumbers}
 use Rattle.runresults.specs.Run.{orderResult}
 use mathlib.Core.Path.{refl}
 use borrow.Author.Needs.{needs}
@@ -15,11 +16,10 @@ enum-known-asked-2 : tie.Need-enum-known-asked-2
 enum-known-asked-2 c = search needs
 
 returns : tie.Need-returns
-unfolding orderResult
 returns c bytes = rw (c .before .before .asked .given .1) (c .operation-numbers .ensures bytes)
 
 returns-2 : tie.Need-returns-2
-unfolding orderResult
+unfolding orderResult orderResultNumbers
 returns-2 c bytes = rw (c .before .asked2 .given .1) refl
 
 pub order-numbers-spec : {M : Type 1} → statement M

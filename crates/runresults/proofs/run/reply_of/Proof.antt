@@ -12,7 +12,7 @@ reply-result-requires : tie.Need-reply-result-requires
 reply-result-requires c κs = search needs
 
 returns : tie.Need-returns
-returns c = c .reply-result .ensures ∙ ap replyResult (c .before .reply .ensures)
+returns c = c .reply-result .ensures ∙ ap replyResult (c .before .reply .ensures .same)
 
 pub reply-of-spec : {M : Type 1} → statement M
 reply-of-spec = tie.close (tie.spec reply-requires reply-result-requires returns)

@@ -1,4 +1,5 @@
 -- `reply_result` meets its contract.
+use Rattle.updater.specs.Run.{replyNumbers}
 use Rattle.runresults.specs.Run.{replyResult}
 use borrow.Author.Needs.{needs}
 use Rattle.runresults.proofs.run.reply_result.Statement.{statement}
@@ -11,7 +12,7 @@ replied-requires : tie.Need-replied-requires
 replied-requires c κs = search needs
 
 returns : tie.Need-returns
-unfolding replyResult
+unfolding replyResult replyNumbers
 returns c = rw (c .before .before .answer .given .1) (c .replied .ensures)
 
 enum-known-answer-2 : tie.Need-enum-known-answer-2
@@ -21,7 +22,7 @@ replied-requires-2 : tie.Need-replied-requires-2
 replied-requires-2 c κs = search needs
 
 returns-2 : tie.Need-returns-2
-unfolding replyResult
+unfolding replyResult replyNumbers
 returns-2 c = rw (c .before .before .answer2 .given .1) (c .replied2 .ensures)
 
 enum-known-answer-3 : tie.Need-enum-known-answer-3
@@ -31,7 +32,7 @@ replied-requires-3 : tie.Need-replied-requires-3
 replied-requires-3 c κs = search needs
 
 returns-3 : tie.Need-returns-3
-unfolding replyResult
+unfolding replyResult replyNumbers
 returns-3 c = rw (c .before .before .answer3 .given .1) (c .replied3 .ensures)
 
 pub reply-result-spec : {M : Type 1} → statement M

@@ -1,4 +1,5 @@
 -- `start_result` meets its contract.
+use Rattle.starts.specs.Starts.{startNumbers}
 use Rattle.runresults.specs.Run.{startResult}
 use mathlib.Core.Path.{refl}
 use borrow.Author.Needs.{needs}
@@ -12,7 +13,7 @@ state-result-requires : tie.Need-state-result-requires
 state-result-requires c κs = search needs
 
 returns : tie.Need-returns
-unfolding startResult
+unfolding startResult startNumbers
 returns c = rw (c .before .before .answer .given .1, c .state-result .ensures) refl
 
 enum-known-answer-2 : tie.Need-enum-known-answer-2
@@ -22,7 +23,7 @@ no-state-requires : tie.Need-no-state-requires
 no-state-requires c κs = search needs
 
 returns-2 : tie.Need-returns-2
-unfolding startResult
+unfolding startResult startNumbers
 returns-2 c = rw (c .before .before .answer2 .given .1, c .no-state .ensures) refl
 
 pub start-result-spec : {M : Type 1} → statement M

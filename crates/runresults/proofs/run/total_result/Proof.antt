@@ -1,4 +1,5 @@
 -- `total_result` meets its contract.
+use Rattle.starts.specs.Starts.{totalNumbers}
 use Rattle.runresults.specs.Run.{totalResult}
 use mathlib.Core.Path.{refl}
 use borrow.Author.Needs.{needs}
@@ -12,11 +13,11 @@ enum-known-answer-2 : tie.Need-enum-known-answer-2
 enum-known-answer-2 c = search needs
 
 returns : tie.Need-returns
-unfolding totalResult
+unfolding totalResult totalNumbers
 returns c = rw (c .before .answer .given .1) refl
 
 returns-2 : tie.Need-returns-2
-unfolding totalResult
+unfolding totalResult totalNumbers
 returns-2 c = rw (c .before .answer2 .given .1) refl
 
 pub total-result-spec : {M : Type 1} → statement M

@@ -4,8 +4,7 @@ use mathlib.Core.Path.{_≡_, refl, sym, ap, _∙_}
 use native.Mathlib.Omega.{arith}
 use borrow.Author.Tests.{not-true, not-false}
 use lib.ListN.{length, drop}
-use Rattle.framing.specs.Words.{words}
-use Rattle.framing.specs.Internal.{wordAt}
+use Rattle.framing.specs.Words.{words, wordAt}
 use Rattle.packets.specs.Header.{headOf}
 use Rattle.packets.specs.Trace.{afterHeader, modeOf}
 use Rattle.scanner.specs.Scan.{beforeOf}

@@ -5,10 +5,11 @@ use mathlib.Core.Logic.{⊎-elim}
 use native.Mathlib.Omega.{arith}
 use borrow.Author.Needs.{needs}
 use lib.ListN.{length}
+use Rattle.base.proofs.Laws.{gives}
 use Rattle.scanner.specs.Scan.{beforeOf, scannedBy, scannedFrom, scanOf, InBoundsBy}
 use Rattle.scanner.proofs.Laws.{at-write, at-end}
-use Rattle.writes.specs.Cursor.{afterWrite, stepOf}
-use Rattle.writes.specs.Types.{Write, Wrote}
+use Rattle.writes.specs.Cursor.{stepNumbers, afterWrite, stepOf}
+use Rattle.writes.specs.Types.{Write, Wrote, Done}
 use Rattle.writes.proofs.CursorLaws.{stepScanned, step-scan, step-none, step-remaining}
 use Rattle.writes.proofs.cursor.Cursor.step.Statement.{statement}
 use Rattle.writes.proofs.cursor.Cursor.step.Tie as tie
@@ -25,7 +26,7 @@ returns : tie.Need-returns
 returns c =
     let args = c .before .before .before .args in
     let e = step-none (args .s .now) (args .self) (c .if1 .taken) in
-    (e, rw e (step-remaining (args .s .now) (args .self)))
+    (gives stepNumbers Done _ e, rw e (step-remaining (args .s .now) (args .self)))
 
 scan-requires : tie.Need-scan-requires
 unfolding InBoundsBy
@@ -40,7 +41,7 @@ returns-2 c =
     let args = c .before .before .before .before .before .args in
     let end = at-end (args .s .now) (c .before .scan .result) (c .before .scan .ensures .0) (λ e. ⊎-elim (λ z. omega arith) (⊎-elim (λ z. omega arith) (⊎-elim (λ z. omega arith) (⊎-elim (λ z. omega arith) (λ z. omega arith)))) (rw e at (c .match .keys2))) in
     let e = rw (end .1) at (stepped (c .before)) in
-    (e, rw e (step-remaining (args .s .now) (args .self)))
+    (gives stepNumbers Done _ e, rw e (step-remaining (args .s .now) (args .self)))
 
 -- a write that was reached lies whole within the bytes
 whole : (c : tie.After-enum-told) → c .before .before .scan .result .at + 4 ≤ length (c .before .before .before .before .before .before .args .s .now)
@@ -67,7 +68,7 @@ returns-3 c =
     let reached = at-write (args .s .now) w (c .before .before .before .enum-told .given .1) in
     let e = ap₂ Wrote written (c .after-write .ensures ∙ ap (λ (write : Write). afterWrite write (w .left) (args .self .remaining - 1)) written)
     ∙ rw reached at (stepped (c .before .before .before .before .before)) in
-    (e, rw e (step-remaining (args .s .now) (args .self)))
+    (gives stepNumbers _ _ e, rw e (step-remaining (args .s .now) (args .self)))
 
 pub step-spec : {M : Type 1} → statement M
 step-spec =
