@@ -8,7 +8,8 @@ CONTRACTS.md is wholly made. In PROOFS.md a definition stands between `<!-- defi
 `<!-- end -->`. A must-fail edit says in its second line which public calls it shows: `# shows: CALL, CALL`.
 
 Checked: both pages are what they would be now, and no page is too long; every public function of a library has an
-`ensures`, and every public call no `requires` and two must-fail edits; every [`name`](file) names something that the
+`ensures`, and every public call no `requires` and two must-fail edits; every theorem that is stated in specs/ has a proof
+of that type among the laws of its crate; every [`name`](file) names something that the
 file declares, every edit named in PROOFS.md exists, and every relative link of README.md and docs/*.md leads to a
 file or a heading; and `specs/` mirrors `src/`: where a module's contracts cite definitions of its own crate there is a
 file of definitions of its name.
@@ -36,6 +37,10 @@ INTERNAL = (
 # Parts of the program that runs the cases. No promise rests on them: they print, and are proved to be safe and to end.
 PROGRAM_PARTS = ('caselines', 'caseasks', 'caseanswers', 'chipcases', 'runcases', 'lentcases')
 
+# Theorems that are not stated in a specs/Theorems.antt but at the end of a file that leads up to them.
+STATED_IN = {'life': ('OrderList.Demand2', 'Life.Demand3', 'Events.EventsKeep', 'AsOrdered.AsOrdered', 'Built.BuiltDemand3', 'Built.BuiltAsOrdered',
+                      'BenchLife.BenchLives')}
+
 # A function's header ends where its body opens, on a line of its own.
 PUBLIC = re.compile(r'^( *)pub (?:extern "C" )?fn (\w+)')
 IMPL = re.compile(r'^impl(?:<[^>]*>)? (\w+)')
@@ -47,6 +52,9 @@ DECLARES = re.compile(
     r'^( *)(?:(?:unfoldable|abbrev|pub) )*'
     r'(?:(?:data|record) (?P<type>[^\s(){}:]+)|(?P<name>[^\s(){}:]+)(?: \{[^}]*\})? :(?: |$))')
 PASSED_ON = re.compile(r'^(?:unfoldable )?pub use [^{]*\{([^}]*)\}', re.M)
+PASSED_FROM = re.compile(r'^(?:unfoldable )?pub use Rattle·\w+·proofs\.proofs\.(\w+)\.\{([^}]*)\}', re.M)
+SIGNATURE = re.compile(r'^pub ([^\s:({]+) : (.*)$', re.M)
+TYPE = re.compile(r'^(?:(?:abbrev|unfoldable) )?pub (?:record )?([^\s(){}:]+)(?: .*)? : (?:.* → )?Type \d(?: where)?$', re.M)
 ITEM = r'^ *(?:pub(?:\(crate\))? )?(?:extern "C" )?(?:fn|struct|enum|const) {}\b'
 
 SHOWS = re.compile(r'^# shows: (.*)$', re.M)
@@ -64,8 +72,10 @@ Written by `python3 docs/proofs.py` from the source; a change by hand is lost.
 What every public call answers: its contract, the definitions that the contract cites, and the must-fail edits
 that the prover refuses because of it. None asks anything of its caller. In a contract `r` is the answer,
 `now (x .entry)` the bytes lent at the call, `now (x .exit)` those given back; of two clauses `answer` is about
-the result and `output` about the bytes lent to be written. [PROOFS.md](PROOFS.md) goes through the demands,
-[README.md](../README.md) has the numbers of refusals, and [include/tealsettle.h](../include/tealsettle.h) the
+the result and `output` about the bytes lent to be written. `Gives numbers r defined`: `r` is the answer defined, and
+its number and values, which `numbers` has for each of its cases, are the defined ones. A slice is shorter than 2^63
+bytes: so it is by its type, and a C host must keep to it. [PROOFS.md](PROOFS.md) goes through the demands,
+[REFUSALS.md](REFUSALS.md) has the numbers of refusals, and [include/tealsettle.h](../include/tealsettle.h) the
 functions for C. Functions of the crates between these are for the crates above them and no calls
 (`INTERNAL` in [proofs.py](proofs.py)).
 """
@@ -85,6 +95,14 @@ class Edit(NamedTuple):
     file: Path
     comment: str
     shows: tuple
+
+
+class Theorem(NamedTuple):
+    """A statement in specs/: its name, its file, what it says in words, and the law that proves it, if there is one."""
+    name: str
+    file: Path
+    comment: str
+    proof: str
 
 
 def read(path):
@@ -216,6 +234,53 @@ def used_laws():
     return {(crate, law) for file, crate, laws in uses if crate != crate_of(file).name for law in laws.split(', ')}
 
 
+def first_comment(text):
+    said = takewhile(lambda line: line.startswith('--'), text.strip('\n').split('\n'))
+    return ' '.join(line.lstrip('- ') for line in said)
+
+
+def stated(file):
+    """The types that a file declares, with their comments, but for those that other statements of it are made of."""
+    blocks = [block for block in read(file).split('\n\n') if TYPE.search(block)]
+    words = [re.findall(r'[^\s(){}:,;]+', re.sub(r'^ *--.*$', '', block, flags=re.M)) for block in blocks]
+    named = [(TYPE.search(block).group(1), first_comment(block)) for block in blocks]
+    return [(name, said) for name, said in named if sum(name in block for block in words) == 1]
+
+
+def stated_elsewhere(crate):
+    """Those of STATED_IN. What the first of a file is about the file's first lines say, of others the lines above them."""
+    parts = [each.split('.') for each in STATED_IN.get(crate.name, ())]
+    files = [crate / 'specs' / f'{module}.antt' for module, _ in parts]
+    firsts = {file: name for file, (_, name) in reversed(list(zip(files, parts)))}
+    return [(name, file, first_comment(read(file)) if firsts[file] == name else comment_of(name, file))
+            for file, (_, name) in zip(files, parts)]
+
+
+def comment_of(name, file):
+    return next(said for type_name, said in stated(file) if type_name == name)
+
+
+def law_types(crate):
+    """What proofs/Laws.antt declares and passes on, with the type of each."""
+    text = read(crate / 'proofs' / 'Laws.antt')
+    types = dict(SIGNATURE.findall(text))
+    for module, names in PASSED_FROM.findall(text):
+        below = dict(SIGNATURE.findall(read(crate / 'proofs' / f'{module}.antt')))
+        types.update((name, below[name]) for name in names.split(', ') if name in below)
+    return types
+
+
+def proof_of(name, types):
+    """The law whose type is a statement; where that is about a kind, of one kind."""
+    return next((law for law, said in types.items() if said.split(' ')[0] == name and '→' not in said), '')
+
+
+def theorems_of(crate):
+    types, page = law_types(crate), crate / 'specs' / 'Theorems.antt'
+    own = [(name, page, said) for name, said in stated(page)]
+    return [Theorem(name, file, said, proof_of(name, types)) for name, file, said in own + stated_elsewhere(crate)]
+
+
 # ---- CONTRACTS.md
 
 def wrapped(text):
@@ -255,16 +320,24 @@ def laws_of(crate, used):
     return [where, *wrapped(f'{in_code(above)}.'), *wrapped(f'Stated beside them: {spare}.'), ''] if laws else []
 
 
+def theorem_row(theorem):
+    laws = crate_of(theorem.file) / 'proofs' / 'Laws.antt'
+    proof = link(theorem.proof, laws) if theorem.proof else ''
+    return f'| {link(theorem.name, theorem.file)} | {theorem.comment} | {proof} |'
+
+
 def edits_of(crate, edits):
     own = [f'- {link(edit.file.stem, edit.file)}: {edit.comment}' for edit in edits if crate_of(edit.file) == crate]
     return [f'`{crate.name}`, {len(own)}:', '', *own, ''] if own else []
 
 
-def contracts_page(calls, edits):
+def contracts_page(calls, edits, theorems):
     used, edits, crates = used_laws(), list(edits.values()), library_crates()
     return '\n'.join([
         INTRO, '## The calls', '', '| call | what it answers |', '|---|---|', *map(index_row, calls.values()), '',
         '## The contracts', '', *joined(entry(call, edits) for call in calls.values()),
+        '## Theorems', '', 'What is proved beside the contracts: each statement in `specs/`, and its proof.', '',
+        '| statement | says | proof |', '|---|---|---|', *map(theorem_row, theorems), '',
         '## The laws', '', 'What a crate offers to those above it beside its contracts.', '',
         *joined(laws_of(crate, used) for crate in crates),
         '## All must-fail edits', '', f'{len(edits)} in all, by crate.', '',
@@ -334,6 +407,18 @@ def check_shown(calls, edits):
     for name in calls:
         if showing.count(name) < 2:
             yield f'{name}: must-fail edits that show it: {showing.count(name)}, fewer than 2'
+
+
+def check_theorems(theorems):
+    for file in sorted(ROOT.glob('crates/*/specs/Theorems.antt')):
+        if not stated(file):
+            yield f'{shown(file)}: states nothing'
+    for theorem in theorems:
+        where = f'{shown(theorem.file)}: {theorem.name}'
+        if not theorem.proof:
+            yield f'{where} is the type of no law of {shown(crate_of(theorem.file) / "proofs" / "Laws.antt")}'
+        if not theorem.comment:
+            yield f'{where} has no comment'
 
 
 def mirrored(file):
@@ -416,19 +501,19 @@ def write_pages(pages):
 
 
 def main():
-    calls, edits = public_calls(), all_edits()
-    made = {CONTRACTS: contracts_page(calls, edits), PROOFS: proofs_page()}
+    calls, edits, theorems = public_calls(), all_edits(), joined(map(theorems_of, library_crates()))
+    made = {CONTRACTS: contracts_page(calls, edits, theorems), PROOFS: proofs_page()}
     if '--check' not in sys.argv[1:]:
         write_pages(made)
     written = [README, *sorted((ROOT / 'docs').glob('*.md'))]
     problems = [
         *check_pages(made), *check_blocks(), *check_lengths(), *check_contracts(), *check_edits(calls, edits),
-        *check_shown(calls, edits), *check_mirror(), *check_edit_names(edits), *joined(map(check_names, written)),
+        *check_shown(calls, edits), *check_theorems(theorems), *check_mirror(), *check_edit_names(edits), *joined(map(check_names, written)),
         *joined(map(check_links, written))]
     names = set().union(*map(names_on, written))
     print(*problems, sep='\n', end='\n' if problems else '')
     if not problems:
-        print(f'docs: {len(calls)} contracts, {len(names)} names, {len(edits)} edits: all as in the source')
+        print(f'docs: {len(calls)} contracts, {len(theorems)} theorems, {len(names)} names, {len(edits)} edits: all as in the source')
     return 1 if problems else 0
 
 

@@ -8,12 +8,15 @@
  * that is returned. A pointer is never null, also where its length is 0, and two slices of one call do not
  * overlap. Lengths are below 2^63.
  *
- * In each struct `number` is 0, or the number of the refusal, and `place` the refusal's place. What does
- * not apply is 0: so is every other field beside a refusal, but for the state of a reply, which is the one
- * that was given, and the bytes of an order, which are FF.
+ * In each struct `number` is 0, or the number of a refusal; that of a reply also holds the number of a stop, 10
+ * to 12, which is no refusal (`stopped` is 1). `place` is the place of that refusal or stop; of a chip that is
+ * stuck, whose number is 0, it is the place where it is stuck. What does not apply is 0: so is every other field
+ * beside a refusal, but for the state of a reply, which is the one that was given, and the bytes of an order,
+ * which are FF.
  *
  * Where an answer depends on the kind of chip, `kind` is the first argument: TEALSETTLE_SPI. Any other
- * number is refused before all else, with 1 at 0, or with 7 at 0 where a run's state is given.
+ * number is refused before all else, with 1 at 0, or with 7 at 0 where a run's state is given. (The specification
+ * has no such question yet: docs/DECISIONS.md, 81.)
  *
  * A layout is three numbers: `length` (F), the chip's length; `update` (U), where its update area
  * begins; `area` (A), how long that is.
@@ -97,7 +100,7 @@ TealsettleRead tealsettle_mcs_read(const uint8_t *text, size_t text_length, uint
 
 /* What a chip loads. */
 typedef struct {
-    uint32_t number; /* 0, or 1 */
+    uint32_t number; /* 0, also for a chip that is stuck; or 1 */
     size_t place;    /* of a chip that is stuck: the faulty word, or the chip's length where bytes ran out */
     uint32_t stuck;  /* 1: the chip loads nothing, and the fields below are 0 */
     uint32_t jumped; /* 0: without a jump (the golden image); 1: after one (an update image) */
@@ -158,8 +161,9 @@ TealsettleBuild tealsettle_build(uint32_t kind, size_t length, size_t update, si
  *                                  reply_kind, seen, seen_length);
  *     }
  *
- * It ends with number 0: the image is written, read back and switched on; or with the number of a refusal or a
- * stop. examples/update.c is a whole host.
+ * It ends with number 0: the image is written, read back and switched on, and the printer loads it, also where the
+ * chip said done to an order that it did not carry out; or it ends with the number of a refusal or a stop.
+ * examples/update.c is a whole host.
  *
  * The state is all that a run is, and the caller keeps it, in memory only. After a power cut it is lost, the printer
  * loads a whole image all the same, and an update begins again with a start, which may come at any time.
