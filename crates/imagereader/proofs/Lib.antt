@@ -2,3 +2,4 @@ pub mod Laws
 mod PacketLaws
 mod ReaderLaws
 mod Shared
+mod Lending

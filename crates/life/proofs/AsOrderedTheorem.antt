@@ -1,5 +1,5 @@
 -- "Each bit ends old or as ordered", word for word: of every order that a run can give, it is the rule of `Admissible`. Only programs could differ: those of phase 3 lie in the update area, where any bytes may stand, and the one of phase 5 comes while the switch word is erased.
-use Prim.Native.Nat.{ℕ, _+_, _*_, _<_, _≤_}
+use Prim.Native.Nat.{ℕ, _+_, _*_, _%_, _<_, _≤_}
 use mathlib.Core.Path.{_≡_, refl, sym, ap, subst, _∙_}
 use mathlib.Core.Bool.{true, false}
 use mathlib.Core.Option.{Option, some, none}
@@ -34,6 +34,13 @@ far-same chip place a b left far same may = record { fills = may .fills ∙ same
 
 module _ (kind : Kind) (lawful : Lawful kind) (updatePlace : ℕ) (firstGolden : List ℕ) where
   module _ (w : World) (inv : Invariant kind updatePlace firstGolden w) (run : Run) (holds : Holds kind updatePlace run w) (ran : running (run .state) ≡ true) (once : run .carried ≡ false) (left : List ℕ) where
+    -- the order of the run's phase, and where the update area is
+    order : (phase : ℕ) → run .state .phase ≡ phase → orderOfRun kind run ≡ orderOf kind (run .state .layout) (run .image) phase (run .state .index)
+    order = order-at kind lawful updatePlace firstGolden w inv run holds ran left
+
+    layout-bounds : (12288 ≤ updatePlace) × (updatePlace + run .state .layout .«update_length» ≤ length (w .chip)) × (run .state .layout .«update_length» % 4096 ≡ 0)
+    layout-bounds = bounds kind lawful updatePlace firstGolden w inv run holds ran left
+
     abbrev pageNow : List ℕ
     pageNow = pageOf (run .image) (run .state .index)
 
@@ -46,10 +53,10 @@ module _ (kind : Kind) (lawful : Lawful kind) (updatePlace : ℕ) (firstGolden :
     page-same p = (far-same (w .chip) pagePlace pageNow (afterProgram (w .chip) pagePlace pageNow) left far (sym long), far-same (w .chip) pagePlace (afterProgram (w .chip) pagePlace pageNow) pageNow left far long)
       where
         within : pagePlace + length pageNow ≤ length (w .chip)
-        within = let b = bounds kind lawful updatePlace firstGolden w inv run holds ran left in let n = page-within kind lawful updatePlace firstGolden w inv run holds ran left p in let q = holds .place in omega arith
+        within = let b = layout-bounds in let n = page-within kind lawful updatePlace firstGolden w inv run holds ran left p in let q = holds .place in omega arith
 
         far : segment ≤ pagePlace
-        far = let b = bounds kind lawful updatePlace firstGolden w inv run holds ran left in let q = holds .place in omega arith
+        far = let b = layout-bounds in let q = holds .place in omega arith
 
         long : length (afterProgram (w .chip) pagePlace pageNow) ≡ length pageNow
         long = program-length (w .chip) pagePlace pageNow within
@@ -78,13 +85,13 @@ module _ (kind : Kind) (lawful : Lawful kind) (updatePlace : ℕ) (firstGolden :
     unfolding LiteralSpan AdmissibleSpan obeyedSpan orderOf byPhase
     same-rule =
         phases (λ (p : ℕ). run .state .phase ≡ p → Same (orderOfRun kind run) (w .chip) left)
-        (λ p. comes (order-at kind lawful updatePlace firstGolden w inv run holds ran left 0 p) (λ m. m, λ m. m))
-        (λ p. comes (order-at kind lawful updatePlace firstGolden w inv run holds ran left 1 p) (λ m. m, λ m. m))
-        (λ p. comes (order-at kind lawful updatePlace firstGolden w inv run holds ran left 2 p) (λ m. m, λ m. m))
-        (λ p. comes (order-at kind lawful updatePlace firstGolden w inv run holds ran left 3 p) (page-same p))
-        (λ p. comes (order-at kind lawful updatePlace firstGolden w inv run holds ran left 4 p) (λ m. m, λ m. m))
-        (λ p. comes (order-at kind lawful updatePlace firstGolden w inv run holds ran left 5 p) (switch-same p))
-        (λ p. comes (order-at kind lawful updatePlace firstGolden w inv run holds ran left 6 p) (λ m. m, λ m. m))
+        (λ p. comes (order 0 p) (λ m. m, λ m. m))
+        (λ p. comes (order 1 p) (λ m. m, λ m. m))
+        (λ p. comes (order 2 p) (λ m. m, λ m. m))
+        (λ p. comes (order 3 p) (page-same p))
+        (λ p. comes (order 4 p) (λ m. m, λ m. m))
+        (λ p. comes (order 5 p) (switch-same p))
+        (λ p. comes (order 6 p) (λ m. m, λ m. m))
         (run .state .phase) (running-says (run .state) (length (run .image)) (fitted kind lawful updatePlace firstGolden w inv run holds ran left) ran .0) refl
       where
         comes : {o : Order} → orderOfRun kind run ≡ o → Same o (w .chip) left → Same (orderOfRun kind run) (w .chip) left
