@@ -87,7 +87,7 @@ static size_t make_equal(uint8_t *chip, uint32_t count)
     return end(&s);
 }
 
-static size_t make_ones(uint8_t *chip)
+size_t make_ones(uint8_t *chip)
 {
     return make_equal(chip, 1);
 }

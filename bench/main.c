@@ -20,6 +20,7 @@ int main(int argc, char **argv)
     table_begin(runs);
     mcs_rows(argv[1], argv[0]);
     boot_rows();
+    list_rows();
     update_rows();
     table_end();
     return 0;

@@ -164,6 +164,7 @@ typedef struct {
     size_t length;
     uint8_t *out;
     ReferenceRead read;
+    uint32_t form;
 } Call;
 
 static int ours_call(void *context)
@@ -188,15 +189,41 @@ static Answer call_answer(void *context)
                     {c->read.number, c->read.place, c->read.length, memcmp(c->out, c->image, MIB16) == 0}};
 }
 
+/* ---- What form the text's file has ---- */
+
+static int ours_form(void *context)
+{
+    Call *c = context;
+    c->form = tealsettle_file_form(c->text, c->length).form;
+    return 1;
+}
+
+static int reference_form(void *context)
+{
+    Call *c = context;
+    c->form = reference_file_form(c->text, c->length).form;
+    return 1;
+}
+
+static Answer form_answer(void *context)
+{
+    return (Answer){{"form"}, {((Call *)context)->form}};
+}
+
 void mcs_rows(const char *directory, char *self)
 {
     uint8_t *image = buffer(MIB16), *text = buffer(3 * MIB16);
     fill_random(image, MIB16);
     size_t length = make_text(image, text);
     file_rows(directory, self, image, text, length);
-    Call ours = {text, image, length, buffer(MIB16), {0}}, peer = {text, image, length, buffer(MIB16), {0}};
+    Call ours = {.text = text, .image = image, .length = length, .out = buffer(MIB16)};
+    Call peer = {.text = text, .image = image, .length = length, .out = buffer(MIB16)};
     Row row = {"MCS text to image, the call alone", length, RECORDS, "records", AS_PLAIN, {"tealsettle", ours_call, call_answer, &ours},
                {"plain C", reference_call, call_answer, &peer}};
+    table_row(&row);
+    row.name = "form of a file: MCS text";
+    row.ours = (Side){"tealsettle", ours_form, form_answer, &ours};
+    row.peer = (Side){"plain C", reference_form, form_answer, &peer};
     table_row(&row);
     free(image), free(text), free(ours.out), free(peer.out);
 }

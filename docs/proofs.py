@@ -32,14 +32,14 @@ INTERNAL = (
     'base', 'framing', 'packets', 'scanner', 'fastpath', 'writes::reading', 'writes::cursor::Cursor::new',
     'writes::cursor::nth_from', 'configreader', 'digits', 'mcsline', 'comparison', 'orders',
     'updater::state::current_operation', 'updater::state::current_bytes', 'updater::state::after_order', 'effects',
-    'fields', 'reportlines', 'loadlines', 'results', 'runresults')
+    'fields', 'reportlines', 'loadlines', 'results', 'fileresults', 'runresults')
 
 # Parts of the program that runs the cases. No promise rests on them: they print, and are proved to be safe and to end.
 PROGRAM_PARTS = ('caselines', 'caseasks', 'caseanswers', 'chipcases', 'runcases', 'lentcases')
 
 # Theorems that are not stated in a specs/Theorems.antt but at the end of a file that leads up to them.
-STATED_IN = {'life': ('OrderList.Demand2', 'Life.Demand3', 'Events.EventsKeep', 'AsOrdered.AsOrdered', 'Built.BuiltDemand3', 'Built.BuiltAsOrdered',
-                      'BenchLife.BenchLives')}
+STATED_IN = {'life': ('OrderList.Demand2', 'Life.Demand3', 'Events.EventsKeep', 'AsOrdered.AsOrdered', 'Built.BuiltDemand3',
+                      'Built.BuiltAsOrdered', 'Built.BuiltNamesPlace', 'BenchLife.BenchLives')}
 
 # A function's header ends where its body opens, on a line of its own.
 PUBLIC = re.compile(r'^( *)pub (?:extern "C" )?fn (\w+)')
@@ -422,9 +422,9 @@ def check_theorems(theorems):
 
 
 def mirrored(file):
-    """The file of definitions that is named like a module; that of a crate's lib.rt like the crate."""
+    """The file of definitions that is named like a module (`UpdatePlace` like `update_place`); that of a crate's lib.rt like the crate."""
     name = crate_of(file).name if file.stem == 'lib' else file.stem
-    return crate_of(file) / 'specs' / f'{name.capitalize()}.antt'
+    return crate_of(file) / 'specs' / f'{"".join(word.capitalize() for word in name.split("_"))}.antt'
 
 
 def cites_own(file):

@@ -1,19 +1,18 @@
 #!/usr/bin/env python3
-"""Keeps the names and numbers of the refusals the same wherever they stand.
+"""Keeps the names, numbers and words of the refusals the same wherever they stand.
 
-    python3 docs/refusals.py            writes the enum of include/tealsettle.h anew, then checks
+    python3 docs/refusals.py            writes its two parts of include/tealsettle.h anew, then checks
     python3 docs/refusals.py --check    only checks: a line for each problem, and exit status 1 if there is one
 
-crates/base/src/refusal.rt has the names and numbers, docs/REFUSALS.md what each means. The enum is made of both; it
-stands between two comments of the header.
+crates/base/src/refusal.rt has the names and numbers, docs/REFUSALS.md the words that say what each means. The parts of
+the header are an enum of the names and a function that gives the words; each stands between two comments.
 
-Checked: the page, crates/base/specs/Refusal.antt and the header have the names and numbers of refusal.rt, in its
-order; no number has two names; the enum is what would be written; and in crates/*/src and crates/*/specs a refusal
-has its name, not a bare number.
+Checked: the page and crates/base/specs/Refusal.antt have the names and numbers of refusal.rt, in its order; no number
+has two names; the words can stand in a string of C, in one line; the header's parts are what would be written; and in
+crates/*/src and crates/*/specs a refusal has its name, not a bare number.
 """
 import re
 import sys
-import textwrap
 from pathlib import Path
 
 ROOT = Path(__file__).resolve().parent.parent
@@ -21,16 +20,23 @@ CODE = ROOT / 'crates' / 'base' / 'src' / 'refusal.rt'
 DEFINITIONS = ROOT / 'crates' / 'base' / 'specs' / 'Refusal.antt'
 PAGE = ROOT / 'docs' / 'REFUSALS.md'
 HEADER = ROOT / 'include' / 'tealsettle.h'
-PREFIX = 'TEALSETTLE_'
+STOPS = range(10, 13)
 WIDTH = 120
 
 IN_CODE = re.compile(r'^pub const (\w+): u32 = (\d+);$', re.M)
 IN_DEFINITIONS = re.compile(r'^(\w+) = (\d+)$', re.M)
 IN_PAGE = re.compile(r'^\| (?P<number>\d+) \| `(?P<name>\w+)` \| (?P<meaning>.+?) \| .+ \|$', re.M)
-IN_ENUM = re.compile(rf'^ *{PREFIX}(\w+) = (\d+),', re.M)
 
-# The enum of the header: what stands before its lines, the lines, and what stands after them.
-ENUM = re.compile(r'(^/\* refusals: .*?\*/\nenum \{\n)(.*?)(^\};\n/\* end of refusals \*/$)', re.M | re.S)
+# The parts of the header: the comment before each, what is written, and the comment after it.
+ENUM = re.compile(r'(^/\* refusals: .*?\*/\n)(.*?)(^/\* end of refusals \*/$)', re.M | re.S)
+WORDS = re.compile(r'(^/\* words: .*?\*/\n)(.*?)(^/\* end of words \*/$)', re.M | re.S)
+WORDS_START = '''\
+/* The words of a refusal or a stop: what `number` of any answer means, in a few words. Never null: 0 and numbers that
+ * are none have words too. */
+static inline const char *tealsettle_refusal_words(uint32_t number)
+{
+    switch (number) {
+'''
 
 # A bare number: in a struct or a comparison of the code, or behind the name of a refused answer in a definition.
 BARE = re.compile(r'\bnumber: (?!0\b)\d+|\bnumber [!=]= (?!0\b)\d+|Refused [1-9]\d*')
@@ -72,30 +78,35 @@ def camel_case(name):
     return first + ''.join(map(str.capitalize, rest))
 
 
-# ---- the enum
+# ---- the parts of the header
 
-def constant(name, number):
-    return f'    {PREFIX}{name} = {number}, '
-
-
-def enum_line(start, meaning, column):
-    """A name and its number, and what it means beside them, in as many lines as that takes."""
-    lines = textwrap.wrap(meaning, WIDTH - column - len('/*  */'), break_on_hyphens=False)
-    return start.ljust(column) + '/* ' + f'\n{" " * column} * '.join(lines) + ' */\n'
-
-
-def column_of(names):
-    """Where the meanings begin: after the longest name."""
-    return max(len(constant(name, number)) for name, number in names)
+def c_name(name, number):
+    return f'TEALSETTLE_{"STOPPED" if number in STOPS else "REFUSED"}_{name}'
 
 
 def enum_text(names):
-    told, column = meanings(), column_of(names)
-    return ''.join(enum_line(constant(name, number), told.get(name, ''), column) for name, number in names)
+    lines = (f'    {c_name(name, number)} = {number},\n' for name, number in names)
+    return 'enum {\n' + ''.join(lines) + '};\n'
 
 
-def write_enum(names):
-    header = ENUM.sub(lambda found: found[1] + enum_text(names) + found[3], read(HEADER))
+def case(label, words):
+    return f'    {label}:\n        return "{words}";\n'
+
+
+def words_text(names):
+    told = meanings()
+    cases = (case(f'case {c_name(name, number)}', told.get(name, '')) for name, number in names)
+    none, unknown = case('case 0', 'neither refused nor stopped'), case('default', 'no refusal or stop has this number')
+    return WORDS_START + none + ''.join(cases) + unknown + '    }\n}\n'
+
+
+PARTS = ((ENUM, enum_text), (WORDS, words_text))
+
+
+def write_header(names):
+    header = read(HEADER)
+    for part, text in PARTS:
+        header = part.sub(lambda found: found[1] + text(names) + found[3], header)
     HEADER.write_text(header, encoding='utf-8')
 
 
@@ -122,14 +133,17 @@ def check_definitions(names):
     yield from check_same(DEFINITIONS, definitions(), [(camel_case(name), number) for name, number in names])
 
 
+def check_words():
+    for name, words in meanings().items():
+        if max(map(len, case('', words).splitlines())) > WIDTH or re.search(r'["\\\\`]|[^ -~]', words):
+            yield f'{shown(PAGE)}: {name}: its words are too long for a line of C, or have a character that a string may not have'
+
+
 def check_header(names):
-    enum = ENUM.search(read(HEADER))
-    if not enum:
-        yield f'{shown(HEADER)}: no enum between /* refusals: .. */ and /* end of refusals */'
-        return
-    yield from check_same(HEADER, pairs(IN_ENUM.findall(enum[2])), names)
-    if enum[2] != enum_text(names):
-        yield f'{shown(HEADER)}: the enum is not what would be written; run python3 docs/refusals.py'
+    for part, text in PARTS:
+        found = part.search(read(HEADER))
+        if not found or found[2] != text(names):
+            yield f'{shown(HEADER)}: {text.__name__} is not what would be written; run python3 docs/refusals.py'
 
 
 def bare_numbers(path):
@@ -148,17 +162,18 @@ def check(names):
     yield from check_numbers(names)
     yield from check_same(PAGE, page(), names)
     yield from check_definitions(names)
+    yield from check_words()
     yield from check_header(names)
     yield from check_bare()
 
 
 def main():
     names = code()
-    # An enum without its meanings would be worse than the old one.
+    # A header without its words would be worse than the old one.
     if '--check' not in sys.argv[1:] and page() == names:
-        write_enum(names)
+        write_header(names)
     problems = list(check(names))
-    print('\n'.join(problems) or f'refusals: {len(names)} numbers, the same in code, definitions, header and page')
+    print('\n'.join(problems) or f'refusals: {len(names)} numbers and their words, the same in code, definitions, header and page')
     return 1 if problems else 0
 
 

@@ -5,45 +5,25 @@
  *     update boot CHIP               says what the chip loads
  *
  * CHIP is a file that stands for the flash. The program can be killed at any moment: the chip then loads, whole, its
- * golden image or the update of the last run that ordered the switch on. Nothing is saved to go on from: the next run
- * starts anew, which is right after every cut, and uncut it brings its own image. The exit status is 0; or 1 for a
- * refusal, a stop or a stuck chip; or 2 where a file or the command line is at fault. */
+ * golden image or the update of the last run that ordered the switch on; or it is not there yet. Nothing is saved to go
+ * on from: the next run starts anew, which is right after every cut, and uncut it brings its own image. The exit status
+ * is 0; or 1 for a refusal, a stop or a stuck chip; or 2 where a file, the output or the command line is at fault. */
 #define _XOPEN_SOURCE 700
 #include "../include/tealsettle.h"
 
 #include <errno.h>
 #include <fcntl.h>
+#include <limits.h>
 #include <stdio.h>
 #include <stdlib.h>
 #include <string.h>
+#include <sys/stat.h>
 #include <time.h>
 #include <unistd.h>
 
 /* The printer's layout. Every run is started with the one that the chip was built with. */
 enum { LENGTH = 32768, UPDATE = 16384, AREA = 16384 };
 #define LAYOUT LENGTH, UPDATE, AREA
-
-static const char *const MEANINGS[] = {
-    [TEALSETTLE_BAD_CHIP_LENGTH] = "the chip's length",
-    [TEALSETTLE_BAD_UPDATE_PLACE] = "the update area's place",
-    [TEALSETTLE_BAD_UPDATE_LENGTH] = "the update area's length",
-    [TEALSETTLE_BAD_IMAGE_LENGTH] = "the image's length",
-    [TEALSETTLE_IMAGE_FAULT] = "the image does not read to its end",
-    [TEALSETTLE_IMAGE_JUMPS] = "the image jumps elsewhere",
-    [TEALSETTLE_BAD_STATE] = "the state does not fit",
-    [TEALSETTLE_RUN_ENDED] = "the run has ended",
-    [TEALSETTLE_BAD_REPLY] = "the reply does not fit its order",
-    [TEALSETTLE_SWITCH_NOT_ERASED] = "the switch segment is not erased",
-    [TEALSETTLE_UPDATE_DIFFERS] = "the update area is not the image, then FF",
-    [TEALSETTLE_SWITCH_NOT_ON] = "the switch word is not ON",
-    [TEALSETTLE_BAD_DAMAGE] = "the damage",
-    [TEALSETTLE_BAD_LINE] = "a line's characters, end or length",
-    [TEALSETTLE_BAD_SUM] = "a line's sum",
-    [TEALSETTLE_BAD_RECORD] = "a record's type, count or address",
-    [TEALSETTLE_BAD_ADDRESS] = "a record's place",
-    [TEALSETTLE_BAD_END] = "the end record",
-    [TEALSETTLE_NO_ROOM] = "the buffer's length",
-};
 
 static int chip;                                    /* the file that stands for the flash */
 static uint8_t text[4 * AREA + 1], image[2 * AREA]; /* an image has fewer bytes than half its text */
@@ -58,7 +38,7 @@ static _Noreturn void fail(const char *what, const char *why)
 /* Of all calls before the first order: the chip is as it was. */
 static _Noreturn void refuse(uint32_t number, size_t place)
 {
-    fprintf(stderr, "refused %u at %zu: %s\n", (unsigned)number, place, MEANINGS[number]);
+    fprintf(stderr, "refused %u at %zu: %s\n", (unsigned)number, place, tealsettle_refusal_words(number));
     exit(1);
 }
 
@@ -104,11 +84,14 @@ static void flash_program(size_t address, const uint8_t *bytes, size_t length)
 
 static void open_chip(const char *path, int flags)
 {
-    chip = open(path, flags, 0666);
-    if (chip < 0)
+    struct stat file;
+    char why[80];
+    chip = open(path, flags);
+    if (chip < 0 || fstat(chip, &file) != 0)
         fail(path, strerror(errno));
-    if (!(flags & O_CREAT) && lseek(chip, 0, SEEK_END) != LENGTH)
-        fail(path, "not as long as the chip");
+    snprintf(why, sizeof why, "it has %lld bytes, and the chip has %d", (long long)file.st_size, LENGTH);
+    if (file.st_size != LENGTH)
+        fail(path, why);
 }
 
 /* The file is read once: the bytes that are checked are those that are written, and those that looks compare. */
@@ -138,17 +121,43 @@ static int boot(void)
         printf("loads nothing: stuck at %zu\n", b.place);
     else
         printf("loads %s: sync %zu, end %zu, writes %zu\n", b.jumped ? "update" : "golden", b.sync, b.end, b.writes);
+    if (fflush(stdout) != 0 || ferror(stdout))
+        fail("standard output", "the answer cannot be written");
     return b.stuck ? 1 : 0;
 }
 
+static char draft[PATH_MAX + 16]; /* the name of a chip that is being built */
+
+static void remove_draft(void)
+{
+    unlink(draft);
+}
+
+/* The first of CHIP.new0, CHIP.new1 and so on that is not there: so a build that is under way, or one that was killed and
+ * has left its own, is not in the way. */
+static void open_draft(const char *path)
+{
+    unsigned i = 0;
+    do {
+        snprintf(draft, sizeof draft, "%s.new%u", path, i++);
+        chip = open(draft, O_RDWR | O_CREAT | O_EXCL, 0666);
+    } while (chip < 0 && errno == EEXIST);
+    if (chip < 0)
+        fail(draft, strerror(errno));
+    atexit(remove_draft);
+}
+
+/* The chip gets its own name when it is whole, and only if no other has it. */
 static int build(const char *path)
 {
     static uint8_t bytes[LENGTH];
     TealsettleBuild built = tealsettle_build(TEALSETTLE_SPI, LAYOUT, image, image_length, bytes, LENGTH);
     if (built.number != 0)
         refuse(built.number, built.place);
-    open_chip(path, O_RDWR | O_CREAT | O_EXCL); /* never over a chip that is there */
+    open_draft(path);
     change(0, bytes, LENGTH);
+    if (link(draft, path) != 0)
+        fail(path, strerror(errno));
     return boot();
 }
 
@@ -185,13 +194,27 @@ static int run(const char *path)
         reply = carry_out(reply.state, i, all);
     if (reply.number != 0)
         fprintf(stderr, "%s %u at %zu: %s; run again, the printer loads a whole image all the same\n",
-                reply.stopped ? "stopped" : "refused", (unsigned)reply.number, reply.place, MEANINGS[reply.number]);
+                reply.stopped ? "stopped" : "refused", (unsigned)reply.number, reply.place,
+                tealsettle_refusal_words(reply.number));
     return boot() || reply.number != 0;
+}
+
+/* A chip that is opened while standard output or error is closed would get its number, and what is printed would be
+ * written into the chip. So 0 to 2 are taken before, for reading: what is printed there is still lost. */
+static void take_standard_files(void)
+{
+    int file = STDIN_FILENO;
+    while (file >= 0 && file <= STDERR_FILENO)
+        file = open("/dev/null", O_RDONLY);
+    if (file < 0)
+        fail("/dev/null", strerror(errno));
+    close(file);
 }
 
 int main(int count, char **words)
 {
     const char *command = count > 1 ? words[1] : "";
+    take_standard_files();
     if (count == 3 && strcmp(command, "boot") == 0)
         return open_chip(words[2], O_RDONLY), boot();
     if (count != 4 || (strcmp(command, "build") != 0 && strcmp(command, "run") != 0))

@@ -1,7 +1,9 @@
-/* Tealsettle for a printer's C host. Link target/staticlib/libhost.a, which `rt staticlib host` makes.
+/* Tealsettle for a printer's C host. Link libtealsettle.a, which `make` proves and makes (target/libtealsettle.a)
+ * and `make install` installs.
  *
  * Every function takes numbers and byte slices (a pointer, then a length) and returns a plain struct.
- * None asks anything of its numbers and bytes: every input gets an answer or a numbered refusal.
+ * None asks anything of its numbers and bytes: every input gets an answer or a numbered refusal. All are proved
+ * but tealsettle_refusal_words, which is plain C: it returns a string.
  *
  * Memory stays the caller's: no function keeps a pointer, allocates, prints or stops the program. A `const`
  * slice is only read. A refusal leaves every lent byte as it was: its number and place are in the struct
@@ -21,8 +23,8 @@
  * A layout is three numbers: `length` (F), the chip's length; `update` (U), where its update area
  * begins; `area` (A), how long that is.
  *
- * The refusals, and the stops of a run, are the enum below; docs/REFUSALS.md says which place each names, and in
- * which order they are asked. */
+ * The refusals, and the stops of a run, are the enum below, and tealsettle_refusal_words says what each means;
+ * docs/REFUSALS.md says which place each names, and in which order they are asked. */
 #ifndef TEALSETTLE_H
 #define TEALSETTLE_H
 
@@ -32,6 +34,8 @@
 #ifdef __cplusplus
 extern "C" {
 #endif
+
+#define TEALSETTLE_VERSION "0.12.0"
 
 /* The kind of chip that the FPGA reads over SPI. */
 #define TEALSETTLE_SPI 0u
@@ -49,40 +53,102 @@ extern "C" {
 #define TEALSETTLE_SEGMENT 4096u
 #define TEALSETTLE_PAGE 256u
 
-/* refusals: names and numbers of refusals and stops, written by docs/refusals.py */
+/* refusals: the numbers of refusals and stops, by name; written by docs/refusals.py */
 enum {
-    TEALSETTLE_BAD_CHIP_LENGTH = 1,    /* the chip's length is no multiple of 4,096 from 16,384 to 16,777,216 */
-    TEALSETTLE_BAD_UPDATE_PLACE = 2,   /* the update area does not begin at a multiple of 4,096 from 12,288 up to
-                                        * below the chip's end */
-    TEALSETTLE_BAD_UPDATE_LENGTH = 3,  /* the update area's length is 0 or no multiple of 4,096, or the area ends
-                                        * after the chip */
-    TEALSETTLE_BAD_IMAGE_LENGTH = 4,   /* the image has no byte, or more than its area (by itself, more than
-                                        * 16,777,216) */
-    TEALSETTLE_IMAGE_FAULT = 5,        /* the image does not read by itself to its end */
-    TEALSETTLE_IMAGE_JUMPS = 6,        /* the image jumps elsewhere (IPROG) */
-    TEALSETTLE_BAD_STATE = 7,          /* the run's state is none that a run with this image can have */
-    TEALSETTLE_RUN_ENDED = 8,          /* the run has ended */
-    TEALSETTLE_BAD_REPLY = 9,          /* the reply is not of the kind or length that the order asks for */
-    TEALSETTLE_SWITCH_NOT_ERASED = 10, /* a look found segment 0 not erased: the run stops */
-    TEALSETTLE_UPDATE_DIFFERS = 11,    /* a look found another byte in the update area than the image, then FF: the
-                                        * run stops */
-    TEALSETTLE_SWITCH_NOT_ON = 12,     /* the last look found the switch word not ON: the run stops */
-    TEALSETTLE_BAD_DAMAGE = 13,        /* there are too few damage bytes for the cut order, or in segment 0 one of
-                                        * their bits is neither the old nor the ordered one */
-    TEALSETTLE_BAD_LINE = 14,          /* a line is not a colon, capital hexadecimal pairs, and LF or CR LF, with as
-                                        * many pairs as its count says */
-    TEALSETTLE_BAD_SUM = 15,           /* a line's pairs do not add to 0 modulo 256 */
-    TEALSETTLE_BAD_RECORD = 16,        /* a record is not of type 00, 01 or 04, or has not its type's count or
-                                        * address */
-    TEALSETTLE_BAD_ADDRESS = 17,       /* a data record does not start where the last ended, or goes past a multiple
-                                        * of 65,536 */
-    TEALSETTLE_BAD_END = 18,           /* no end record came, or something follows it */
-    TEALSETTLE_NO_ROOM = 19,           /* what is to be written does not fit into the buffer; `bootreport`: the input
-                                        * has more than 65,536 bytes */
+    TEALSETTLE_REFUSED_BAD_CHIP_LENGTH = 1,
+    TEALSETTLE_REFUSED_BAD_UPDATE_PLACE = 2,
+    TEALSETTLE_REFUSED_BAD_UPDATE_LENGTH = 3,
+    TEALSETTLE_REFUSED_BAD_IMAGE_LENGTH = 4,
+    TEALSETTLE_REFUSED_IMAGE_FAULT = 5,
+    TEALSETTLE_REFUSED_IMAGE_JUMPS = 6,
+    TEALSETTLE_REFUSED_BAD_STATE = 7,
+    TEALSETTLE_REFUSED_RUN_ENDED = 8,
+    TEALSETTLE_REFUSED_BAD_REPLY = 9,
+    TEALSETTLE_STOPPED_SWITCH_NOT_ERASED = 10,
+    TEALSETTLE_STOPPED_UPDATE_DIFFERS = 11,
+    TEALSETTLE_STOPPED_SWITCH_NOT_ON = 12,
+    TEALSETTLE_REFUSED_BAD_DAMAGE = 13,
+    TEALSETTLE_REFUSED_BAD_LINE = 14,
+    TEALSETTLE_REFUSED_BAD_SUM = 15,
+    TEALSETTLE_REFUSED_BAD_RECORD = 16,
+    TEALSETTLE_REFUSED_BAD_ADDRESS = 17,
+    TEALSETTLE_REFUSED_BAD_END = 18,
+    TEALSETTLE_REFUSED_NO_ROOM = 19,
 };
 /* end of refusals */
 
+/* words: from docs/REFUSALS.md, written by docs/refusals.py */
+/* The words of a refusal or a stop: what `number` of any answer means, in a few words. Never null: 0 and numbers that
+ * are none have words too. */
+static inline const char *tealsettle_refusal_words(uint32_t number)
+{
+    switch (number) {
+    case 0:
+        return "neither refused nor stopped";
+    case TEALSETTLE_REFUSED_BAD_CHIP_LENGTH:
+        return "the chip's kind is unknown, or its length is not a multiple of 4,096 from 16,384 to 16,777,216";
+    case TEALSETTLE_REFUSED_BAD_UPDATE_PLACE:
+        return "the update area does not begin at a multiple of 4,096 from 12,288 up to below the chip's end";
+    case TEALSETTLE_REFUSED_BAD_UPDATE_LENGTH:
+        return "the update area's length is 0 or not a multiple of 4,096, or the area ends after the chip";
+    case TEALSETTLE_REFUSED_BAD_IMAGE_LENGTH:
+        return "the image is empty, or longer than its area (checked by itself: than 16,777,216 bytes)";
+    case TEALSETTLE_REFUSED_IMAGE_FAULT:
+        return "the image cannot be loaded by itself: it has a faulty word, or its bytes run out";
+    case TEALSETTLE_REFUSED_IMAGE_JUMPS:
+        return "the image jumps elsewhere on the chip (IPROG)";
+    case TEALSETTLE_REFUSED_BAD_STATE:
+        return "the chip's kind is unknown, or the run's state is none that a run with this image can have";
+    case TEALSETTLE_REFUSED_RUN_ENDED:
+        return "the run has ended already";
+    case TEALSETTLE_REFUSED_BAD_REPLY:
+        return "the reply is not of the kind or length that the order asks for";
+    case TEALSETTLE_STOPPED_SWITCH_NOT_ERASED:
+        return "the switch segment did not read back as erased";
+    case TEALSETTLE_STOPPED_UPDATE_DIFFERS:
+        return "the update area did not read back as the image, then FF";
+    case TEALSETTLE_STOPPED_SWITCH_NOT_ON:
+        return "the switch word did not read back as ON";
+    case TEALSETTLE_REFUSED_BAD_DAMAGE:
+        return "the damage bytes are too few for the order, or in segment 0 a bit is neither old nor as ordered";
+    case TEALSETTLE_REFUSED_BAD_LINE:
+        return "the line is not a colon, as many capital hexadecimal pairs as its count says, and LF or CR LF";
+    case TEALSETTLE_REFUSED_BAD_SUM:
+        return "the line's checksum is wrong: its pairs do not add to 0 modulo 256";
+    case TEALSETTLE_REFUSED_BAD_RECORD:
+        return "the line's type is not 00, 01 or 04, or its count or address is not one that its type has";
+    case TEALSETTLE_REFUSED_BAD_ADDRESS:
+        return "the line's data leave a gap, go back, or go past a multiple of 65,536";
+    case TEALSETTLE_REFUSED_BAD_END:
+        return "the end record is missing, or something follows it";
+    case TEALSETTLE_REFUSED_NO_ROOM:
+        return "what is to be written does not fit into the memory that is given for it";
+    default:
+        return "no refusal or stop has this number";
+    }
+}
+/* end of words */
+
 /* ---- Image files ---- */
+
+/* The forms that a file with an image has. */
+#define TEALSETTLE_TEXT 1u   /* MCS text */
+#define TEALSETTLE_BIT 2u    /* a BIT file, with the image inside it */
+#define TEALSETTLE_BINARY 3u /* the image itself */
+
+/* What a file with an image is. */
+typedef struct {
+    uint32_t number; /* 0, or 5 */
+    size_t place;    /* of the refusal: the field of a BIT file that is not the one to come there, whole */
+    uint32_t form;   /* TEALSETTLE_TEXT, TEALSETTLE_BIT or TEALSETTLE_BINARY; 0 for a refusal */
+    size_t first;    /* of a BIT file: the place of the image's first byte, */
+    size_t length;   /* and how many bytes the image has; they are all in the file */
+} TealsettleForm;
+
+/* Tells a file's form by its bytes. A file that begins with the 13 bytes of BIT files is one; any other is text if it has
+ * no byte above 7F. A sync word has, so no image that loads anything is taken for text; and every text that
+ * tealsettle_mcs_read reads is told as text. */
+TealsettleForm tealsettle_file_form(const uint8_t *file, size_t file_length);
 
 /* What reading MCS text came to. */
 typedef struct {
@@ -137,6 +203,71 @@ typedef struct {
 /* Whether an image is one that a chip can be given: it reads by itself to its end and does not jump. */
 TealsettleImage tealsettle_image_check(uint32_t kind, const uint8_t *image, size_t image_length);
 
+/* The writes one after the other, in one pass:
+ *
+ *     TealsettleListing list = tealsettle_writes(TEALSETTLE_SPI, chip, chip_length);
+ *     TealsettleStep step = tealsettle_next_write(TEALSETTLE_SPI, TEALSETTLE_CURSOR(list.cursor), chip, chip_length);
+ *     for (; step.found; step = tealsettle_next_write(TEALSETTLE_SPI, TEALSETTLE_CURSOR(step.cursor), chip, chip_length))
+ *         ... step.register_number, step.word, step.word_place ...
+ *
+ * The k-th step says what tealsettle_write answers for k, and after the last write none is found. A list that is
+ * refused has a cursor of zeros, which finds nothing: so `list.number` may also be asked after the loop. */
+
+/* A place among the writes. The caller keeps it, and hands it back with the bytes that it was opened on, unaltered.
+ * Other numbers and other bytes get an answer too, but no promise about a chip rests on it. */
+typedef struct {
+    size_t at;                /* place of the next word */
+    uint32_t register_number; /* of the packet that the word is in */
+    size_t left;              /* how many data words are left in that packet */
+    size_t remaining;         /* how many writes are still to come */
+} TealsettleCursor;
+
+/* A cursor as the call takes it: its numbers, in their order. */
+#define TEALSETTLE_CURSOR(c) (c).at, (c).register_number, (c).left, (c).remaining
+
+/* Where a list of writes begins. */
+typedef struct {
+    uint32_t number;         /* 0, or 1; of an image also 4, 5 or 6 */
+    size_t place;            /* of the refusal */
+    TealsettleCursor cursor; /* before the first write; of a chip that is stuck all 0 */
+} TealsettleListing;
+
+/* A cursor before the first write of what tealsettle_boot counts. A chip that is stuck has none. */
+TealsettleListing tealsettle_writes(uint32_t kind, const uint8_t *chip, size_t chip_length);
+
+/* A cursor before the first write of an image by itself, as tealsettle_image_check counts them. */
+TealsettleListing tealsettle_image_writes(uint32_t kind, const uint8_t *image, size_t image_length);
+
+/* The next write of a list. */
+typedef struct {
+    uint32_t number;          /* 0, or 1 (the kind) */
+    size_t place;             /* 0 */
+    uint32_t found;           /* 1; or 0: no write is left, and the fields below are 0, the cursor's too */
+    uint32_t register_number; /* of the register written: 0 to 31 */
+    uint32_t word;            /* the word written */
+    size_t word_place;        /* where in the bytes the word stands */
+    TealsettleCursor cursor;  /* after this write */
+} TealsettleStep;
+
+/* A cursor's next write, and the cursor after it. `bytes` are the chip or the image that it was opened on. */
+TealsettleStep tealsettle_next_write(uint32_t kind, size_t at, uint32_t register_number, size_t left, size_t remaining,
+                                     const uint8_t *bytes, size_t bytes_length);
+
+/* What writing a report came to. */
+typedef struct {
+    uint32_t number; /* 0, or 1 or 19 */
+    size_t place;    /* 0 */
+    size_t length;   /* how many bytes of text stand at the front of `out` */
+} TealsettleReport;
+
+/* Room for every report of a chip with so many writes, as tealsettle_boot counts them. */
+#define TEALSETTLE_REPORT_ROOM(writes) (27 * (size_t)(writes) + 64)
+
+/* The boot report of a chip, as `bootreport` prints it: what loads, a line for each write, and the end; or where the
+ * chip is stuck. Lines end in LF, and no byte 0 follows. Bytes of `out` after the report stay as they were. */
+TealsettleReport tealsettle_report(uint32_t kind, const uint8_t *chip, size_t chip_length, uint8_t *out,
+                                   size_t out_length);
+
 /* ---- A printer's first chip ---- */
 
 /* Whether a chip was built. */
@@ -149,6 +280,18 @@ typedef struct {
  * were. It loads the golden image, whole, without a jump. */
 TealsettleBuild tealsettle_build(uint32_t kind, size_t length, size_t update, size_t area, const uint8_t *golden,
                                  size_t golden_length, uint8_t *out, size_t out_length);
+
+/* Where a chip says that its update area begins. */
+typedef struct {
+    uint32_t number; /* 0, or 1 */
+    size_t place;    /* 0 */
+    uint32_t found;  /* 1; or 0: segment 1 does not begin with the words that name a place */
+    size_t update;   /* U */
+} TealsettlePlace;
+
+/* The update place that segment 1 of a chip names: on a chip that tealsettle_build made it is the one that it was built
+ * with, after every run and every cut. */
+TealsettlePlace tealsettle_update_place(uint32_t kind, const uint8_t *chip, size_t chip_length);
 
 /* ---- A run: updating a chip ----
  *

@@ -56,7 +56,7 @@ uint32_t reference_cut_run(uint8_t *chip, size_t chip_length, size_t update, siz
     ReferenceOrder order;
     int damaged = reference_order(&cut, image, image_length, &order) == 0 && order.operation != TEALSETTLE_LOOK;
     if (damaged && !damage_allowed(&order, chip, damage, damage_length))
-        return TEALSETTLE_BAD_DAMAGE;
+        return TEALSETTLE_REFUSED_BAD_DAMAGE;
     obey_orders(first, k, image, chip);
     if (damaged)
         memcpy(chip + order.address, damage, order.length);

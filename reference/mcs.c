@@ -46,10 +46,10 @@ static inline Record check_line(const uint8_t *text, size_t length, size_t at)
     const uint8_t *line = text + at;
     size_t left = length - at;
     if (left < 12 || line[0] != ':')
-        return refused(TEALSETTLE_BAD_LINE);
+        return refused(TEALSETTLE_REFUSED_BAD_LINE);
     size_t count = pair(line + 1), after = 2 * count + 11;
     if (left < after + 1)
-        return refused(TEALSETTLE_BAD_LINE);
+        return refused(TEALSETTLE_REFUSED_BAD_LINE);
     uint32_t sum = 0, bad = 0;
     for (size_t i = 1; i < after; i += 2) {
         uint32_t high = digits[line[i]], low = digits[line[i + 1]];
@@ -58,11 +58,11 @@ static inline Record check_line(const uint8_t *text, size_t length, size_t at)
     }
     size_t ending = line_end(line + after, left - after);
     if ((bad & NONE) != 0 || ending == 0)
-        return refused(TEALSETTLE_BAD_LINE);
+        return refused(TEALSETTLE_REFUSED_BAD_LINE);
     if (sum % 256 != 0)
-        return refused(TEALSETTLE_BAD_SUM);
+        return refused(TEALSETTLE_REFUSED_BAD_SUM);
     Record r = {0, pair(line + 7), pair(line + 3) << 8 | pair(line + 5), count, at + after + ending};
-    return record_allowed(r.type, count, r.address) ? r : refused(TEALSETTLE_BAD_RECORD);
+    return record_allowed(r.type, count, r.address) ? r : refused(TEALSETTLE_REFUSED_BAD_RECORD);
 }
 
 /* The first pass: how many bytes there are. */
@@ -75,16 +75,16 @@ static ReferenceRead check_text(const uint8_t *text, size_t length)
         if (r.number != 0)
             return (ReferenceRead){r.number, at, 0};
         if (r.type == 1)
-            return r.end < length ? (ReferenceRead){TEALSETTLE_BAD_END, r.end, 0} : (ReferenceRead){0, 0, next};
+            return r.end < length ? (ReferenceRead){TEALSETTLE_REFUSED_BAD_END, r.end, 0} : (ReferenceRead){0, 0, next};
         if (r.type == 4)
             upper = pair(text + at + 9) << 8 | pair(text + at + 11);
         else if (((size_t)upper << 16 | r.address) != next || r.address + r.count > 65536)
-            return (ReferenceRead){TEALSETTLE_BAD_ADDRESS, at, 0};
+            return (ReferenceRead){TEALSETTLE_REFUSED_BAD_ADDRESS, at, 0};
         else
             next += r.count;
         at = r.end;
     }
-    return (ReferenceRead){TEALSETTLE_BAD_END, length, 0};
+    return (ReferenceRead){TEALSETTLE_REFUSED_BAD_END, length, 0};
 }
 
 static inline void decode_data(const uint8_t *pairs, size_t count, uint8_t *restrict out)
@@ -113,7 +113,7 @@ ReferenceRead reference_mcs_read(const uint8_t *text, size_t text_length, uint8_
     make_digits();
     ReferenceRead r = check_text(text, text_length);
     if (r.number == 0 && r.length > out_length)
-        return (ReferenceRead){TEALSETTLE_NO_ROOM, 0, 0};
+        return (ReferenceRead){TEALSETTLE_REFUSED_NO_ROOM, 0, 0};
     if (r.number == 0)
         decode_text(text, text_length, out);
     return r;

@@ -106,7 +106,7 @@ static inline __attribute__((always_inline)) ReferenceBoot read_all(const uint8_
     for (;;) {
         boot.sync = find_sync(bytes, length, from);
         if (boot.sync == length)
-            return stuck_at(TEALSETTLE_IMAGE_FAULT, length);
+            return stuck_at(TEALSETTLE_REFUSED_IMAGE_FAULT, length);
         Scanner s = {.at = boot.sync + 4};
         Status status = read_packets(bytes, length, &s, sink);
         if (status == ENDED) {
@@ -114,12 +114,12 @@ static inline __attribute__((always_inline)) ReferenceBoot read_all(const uint8_
             return boot;
         }
         if (status != JUMPS)
-            return stuck_at(TEALSETTLE_IMAGE_FAULT, status == FAULT ? s.at : length);
+            return stuck_at(TEALSETTLE_REFUSED_IMAGE_FAULT, status == FAULT ? s.at : length);
         from = s.wbstar & 0x1FFFFFFF;
         if (boot.jumped == jumps)
-            return stuck_at(TEALSETTLE_IMAGE_JUMPS, s.at);
+            return stuck_at(TEALSETTLE_REFUSED_IMAGE_JUMPS, s.at);
         if (from >= length)
-            return stuck_at(TEALSETTLE_IMAGE_FAULT, s.at);
+            return stuck_at(TEALSETTLE_REFUSED_IMAGE_FAULT, s.at);
         boot.jumped++;
     }
 }
@@ -132,7 +132,7 @@ static ReferenceBoot read_and_count(const uint8_t *bytes, size_t length, int jum
 ReferenceBoot reference_boot(const uint8_t *chip, size_t length)
 {
     if (!reference_length_allowed(length))
-        return (ReferenceBoot){.number = TEALSETTLE_BAD_CHIP_LENGTH};
+        return (ReferenceBoot){.number = TEALSETTLE_REFUSED_BAD_CHIP_LENGTH};
     ReferenceBoot boot = read_and_count(chip, length, 1);
     boot.number = 0; /* a chip that is stuck is an answer */
     return boot;
@@ -141,7 +141,7 @@ ReferenceBoot reference_boot(const uint8_t *chip, size_t length)
 ReferenceBoot reference_boot_list(const uint8_t *chip, size_t length, ReferenceWrite *list, size_t room)
 {
     if (!reference_length_allowed(length))
-        return (ReferenceBoot){.number = TEALSETTLE_BAD_CHIP_LENGTH};
+        return (ReferenceBoot){.number = TEALSETTLE_REFUSED_BAD_CHIP_LENGTH};
     ReferenceBoot boot = read_all(chip, length, 1, (Sink){list, room});
     boot.number = 0;
     return boot;
@@ -150,8 +150,27 @@ ReferenceBoot reference_boot_list(const uint8_t *chip, size_t length, ReferenceW
 ReferenceBoot reference_image_check(const uint8_t *image, size_t length, size_t most)
 {
     if (length == 0 || length > most)
-        return (ReferenceBoot){.number = TEALSETTLE_BAD_IMAGE_LENGTH};
+        return (ReferenceBoot){.number = TEALSETTLE_REFUSED_BAD_IMAGE_LENGTH};
     ReferenceBoot boot = read_and_count(image, length, 0);
     boot.stuck = 0;
     return boot;
+}
+
+/* After DESYNC and IPROG nothing is left. */
+int reference_next_write(ReferenceCursor *cursor, const uint8_t *bytes, size_t length, ReferenceWrite *write)
+{
+    Scanner s = {.at = cursor->at, .reg = cursor->register_number};
+    size_t left = cursor->left;
+    if (cursor->remaining == 0 || s.at > length)
+        return 0;
+    for (; left == 0; left = s.left)
+        if (take_header(bytes, length, &s) != GOING)
+            return 0;
+    if (length - s.at < 4)
+        return 0;
+    uint32_t word = word_at(bytes + s.at);
+    int last = s.reg == CMD && (word == DESYNC || word == IPROG);
+    *write = (ReferenceWrite){s.reg, word, s.at};
+    *cursor = (ReferenceCursor){s.at + 4, s.reg, left - 1, last ? 0 : cursor->remaining - 1};
+    return 1;
 }

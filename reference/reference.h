@@ -1,6 +1,6 @@
 /* The specification in C, once: packets and what loads, layouts and the builder, a run's orders and replies, the
- * cut run, and MCS text. The tests compare the library with it, and the benchmark measures the library beside it:
- * so it is written for speed, with normal care. It takes nothing from the library but names for the numbers of
+ * cut run, MCS text, the forms of image files and reports. The tests compare the library with it, and the benchmark
+ * measures the library beside it: so it is written for speed, with normal care. It takes nothing from the library but names for the numbers of
  * refusals, orders and replies, and is compiled by itself, as a library is, so that no call is optimised for its
  * caller.
  *
@@ -14,7 +14,16 @@
 
 #include "../include/tealsettle.h"
 
-/* ---- MCS text ---- */
+/* ---- Image files ---- */
+
+typedef struct {
+    uint32_t number;
+    size_t place;
+    uint32_t form;
+    size_t first, length;
+} ReferenceForm;
+
+ReferenceForm reference_file_form(const uint8_t *file, size_t length);
 
 typedef struct {
     uint32_t number;
@@ -43,6 +52,18 @@ ReferenceBoot reference_boot(const uint8_t *chip, size_t length);
 /* The same, and as many of the writes as there is room for. Of a chip that is stuck the list means nothing. */
 ReferenceBoot reference_boot_list(const uint8_t *chip, size_t length, ReferenceWrite *list, size_t room);
 
+/* A place among the writes, and the step to the next one; 0 where none is left, and then the cursor is as it was. */
+typedef struct {
+    size_t at;
+    uint32_t register_number;
+    size_t left, remaining;
+} ReferenceCursor;
+
+int reference_next_write(ReferenceCursor *cursor, const uint8_t *bytes, size_t length, ReferenceWrite *write);
+
+/* The report of a chip that was read so, and its length. The list is whole, and `out` has 27 bytes for each write, and 64 more. */
+size_t reference_report(const ReferenceBoot *boot, const ReferenceWrite *list, uint8_t *out);
+
 /* An image read by itself, for an area of `most` bytes: it is never stuck nor jumped, but refused. */
 ReferenceBoot reference_image_check(const uint8_t *image, size_t length, size_t most);
 
@@ -65,13 +86,16 @@ static inline int reference_length_allowed(size_t length)
 static inline uint32_t reference_layout(size_t length, size_t update, size_t area)
 {
     if (!reference_length_allowed(length))
-        return TEALSETTLE_BAD_CHIP_LENGTH;
+        return TEALSETTLE_REFUSED_BAD_CHIP_LENGTH;
     if (update % TEALSETTLE_SEGMENT != 0 || update < REFERENCE_UPDATE_MIN || update >= length)
-        return TEALSETTLE_BAD_UPDATE_PLACE;
+        return TEALSETTLE_REFUSED_BAD_UPDATE_PLACE;
     if (area % TEALSETTLE_SEGMENT != 0 || area == 0 || area > length - update)
-        return TEALSETTLE_BAD_UPDATE_LENGTH;
+        return TEALSETTLE_REFUSED_BAD_UPDATE_LENGTH;
     return 0;
 }
+
+/* The place that segment 1 names; without one, and for a refusal, both are 0. */
+uint32_t reference_update_place(const uint8_t *chip, size_t length, int *found, size_t *update);
 
 uint32_t reference_build(size_t length, size_t update, size_t area, const uint8_t *golden, size_t golden_length,
                          uint8_t *out, size_t out_length, size_t *place);

@@ -53,7 +53,7 @@ void reference_advance(ReferenceState *s)
 
 static inline int is_stop(uint32_t number)
 {
-    return number >= TEALSETTLE_SWITCH_NOT_ERASED && number <= TEALSETTLE_SWITCH_NOT_ON;
+    return number >= TEALSETTLE_STOPPED_SWITCH_NOT_ERASED && number <= TEALSETTLE_STOPPED_SWITCH_NOT_ON;
 }
 
 static inline int state_fits(const ReferenceState *s, size_t image_length)
@@ -115,11 +115,11 @@ static inline uint32_t stop_of_phase(uint32_t phase)
 {
     switch (phase) {
     case 1:
-        return TEALSETTLE_SWITCH_NOT_ERASED;
+        return TEALSETTLE_STOPPED_SWITCH_NOT_ERASED;
     case 4:
-        return TEALSETTLE_UPDATE_DIFFERS;
+        return TEALSETTLE_STOPPED_UPDATE_DIFFERS;
     default:
-        return TEALSETTLE_SWITCH_NOT_ON;
+        return TEALSETTLE_STOPPED_SWITCH_NOT_ON;
     }
 }
 
@@ -145,13 +145,13 @@ uint32_t reference_reply(ReferenceState *state, const uint8_t *image, size_t ima
 {
     *place = 0;
     if (!state_fits(state, image_length))
-        return TEALSETTLE_BAD_STATE;
+        return TEALSETTLE_REFUSED_BAD_STATE;
     if (state->phase == REFERENCE_ENDED)
-        return TEALSETTLE_RUN_ENDED;
+        return TEALSETTLE_REFUSED_RUN_ENDED;
     ReferenceOrder order = order_of(state, image);
     int look = order.operation == TEALSETTLE_LOOK;
     if (reply_kind != (look ? TEALSETTLE_READ : TEALSETTLE_DONE) || bytes_length != (look ? order.length : 0))
-        return TEALSETTLE_BAD_REPLY;
+        return TEALSETTLE_REFUSED_BAD_REPLY;
     if (look)
         return reply_look(state, image, &order, bytes, place);
     reference_advance(state);
@@ -161,9 +161,9 @@ uint32_t reference_reply(ReferenceState *state, const uint8_t *image, size_t ima
 uint32_t reference_order(const ReferenceState *state, const uint8_t *image, size_t image_length, ReferenceOrder *order)
 {
     if (!state_fits(state, image_length))
-        return TEALSETTLE_BAD_STATE;
+        return TEALSETTLE_REFUSED_BAD_STATE;
     if (state->phase == REFERENCE_ENDED)
-        return TEALSETTLE_RUN_ENDED;
+        return TEALSETTLE_REFUSED_RUN_ENDED;
     *order = order_of(state, image);
     return 0;
 }
@@ -173,7 +173,7 @@ uint32_t reference_finished(const ReferenceState *state, int *ended, uint32_t *o
     *ended = 0;
     *outcome = 0;
     if (!state_fits(state, state->image_length))
-        return TEALSETTLE_BAD_STATE;
+        return TEALSETTLE_REFUSED_BAD_STATE;
     *ended = state->phase == REFERENCE_ENDED;
     *outcome = state->outcome; /* 0 before the end */
     return 0;
@@ -200,7 +200,7 @@ uint32_t reference_total(size_t length, size_t update, size_t area, size_t image
     if (number != 0)
         return number;
     if (image_length == 0 || image_length > area)
-        return TEALSETTLE_BAD_IMAGE_LENGTH;
+        return TEALSETTLE_REFUSED_BAD_IMAGE_LENGTH;
     *orders = reference_orders_in_all(&state);
     return 0;
 }

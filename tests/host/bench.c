@@ -76,7 +76,7 @@ static ReferenceState some_run(void)
 
 static int try_run(void)
 {
-    uint32_t kind = one_in(50) ? 1 + (uint32_t)below(3) : TEALSETTLE_SPI, number = TEALSETTLE_BAD_CHIP_LENGTH;
+    uint32_t kind = one_in(50) ? 1 + (uint32_t)below(3) : TEALSETTLE_SPI, number = TEALSETTLE_REFUSED_BAD_CHIP_LENGTH;
     ReferenceState s = some_run(), before_cut = {0};
     size_t all = reference_orders_in_all(&s), k = some_cut(all), place = 0;
     make_chip(s.length);

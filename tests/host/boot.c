@@ -1,24 +1,20 @@
 /* tealsettle_boot, tealsettle_write, tealsettle_image_check and tealsettle_build beside the reference: random images
  * and chips, good and damaged, short and long, built and not. Answers, every write and every byte of the buffer are
  * compared. Prints how many were tried. */
-#include "compare.h"
-#include "make.h"
+#include "chips.h"
 
 #include <stdlib.h>
 
-enum { IMAGES = 1000000, CHIPS = 60000, BUILDS = 60000, LARGE = 8, SMALL = 1 << 16, LISTED = 1 << 15, MARK = 0x5A };
+enum { IMAGES = 1000000, CHIPS = 60000, BUILDS = 60000, LARGE = 8, MARK = 0x5A };
 
 static const size_t longest = REFERENCE_CHIP_MAX;
-
-static ReferenceWrite list[LISTED]; /* of the chip that was read last */
-static long answers[NUMBERS], stuck, golden, updated;
 
 /* Images. */
 
 static int try_image(const uint8_t *image, size_t length)
 {
     uint32_t kind = some_kind();
-    ReferenceBoot m = {.number = TEALSETTLE_BAD_CHIP_LENGTH};
+    ReferenceBoot m = {.number = TEALSETTLE_REFUSED_BAD_CHIP_LENGTH};
     if (kind == TEALSETTLE_SPI)
         m = reference_image_check(image, length, longest);
     TealsettleImage r = tealsettle_image_check(kind, image, length);
@@ -50,22 +46,10 @@ static int try_writes(uint32_t kind, const uint8_t *chip, size_t length, const R
     return try_write(kind, chip, length, count, boot) || (one_in(8) && try_write(kind, chip, length, SIZE_MAX - below(9), boot));
 }
 
-static void count_boot(const ReferenceBoot *boot)
-{
-    if (boot->number != 0)
-        answers[boot->number]++;
-    else if (boot->stuck)
-        stuck++;
-    else if (boot->jumped)
-        updated++;
-    else
-        golden++;
-}
-
 static int try_boot(const uint8_t *chip, size_t length)
 {
     uint32_t kind = some_kind();
-    ReferenceBoot m = {.number = TEALSETTLE_BAD_CHIP_LENGTH};
+    ReferenceBoot m = {.number = TEALSETTLE_REFUSED_BAD_CHIP_LENGTH};
     if (kind == TEALSETTLE_SPI)
         m = reference_boot_list(chip, length, list, LISTED);
     TealsettleBoot r = tealsettle_boot(kind, chip, length);
@@ -74,49 +58,6 @@ static int try_boot(const uint8_t *chip, size_t length)
            differs("boot: stuck", r.stuck, (size_t)m.stuck) || differs("boot: jumped", r.jumped, (size_t)m.jumped) ||
            differs("boot: sync", r.sync, m.sync) || differs("boot: end", r.end, m.end) ||
            differs("boot: writes", r.writes, m.writes) || try_writes(kind, chip, length, &m);
-}
-
-/* Chips. */
-
-static uint8_t chip[SMALL];
-
-static void put_stream(size_t at, size_t length)
-{
-    if (at < length)
-        memcpy(chip + at, stream, min(stream_length, length - at));
-}
-
-/* A stream that leaves with IPROG for a place, or close to it. */
-static void make_jump(size_t target)
-{
-    make_stream(below(4), one_in(8));
-    if (stream_length >= 8)
-        stream_length -= 8;
-    if (!one_in(20)) {
-        put_header(16, 1);
-        put_word((uint32_t)(target + (one_in(10) ? below(3) - 1 : 0)) | (one_in(4) ? 0xE0000000u : 0));
-    }
-    put_header(4, 1);
-    put_word(0x0000000F);
-}
-
-/* A chip that nobody built: a stream, or one that jumps and another. */
-static size_t make_chip(void)
-{
-    size_t length = one_in(12) ? below(SMALL) : 4096 * (4 + (one_in(4) ? below(8) : 0));
-    size_t first = one_in(3) ? below(9000) : below(40), second = one_in(4) ? below(length + 40) : first + below(6000);
-    memset(chip, one_in(8) ? (int)below(256) : 0xFF, sizeof chip);
-    make_stream(below(10), one_in(3));
-    if (one_in(3))
-        damage_stream();
-    put_stream(second, length);
-    if (!one_in(4)) {
-        make_jump(one_in(10) ? length : second);
-        if (one_in(10))
-            damage_stream();
-        put_stream(first, length);
-    }
-    return length;
 }
 
 /* The builder. */
@@ -158,7 +99,7 @@ static void make_golden(size_t update)
 static int try_build(void)
 {
     static uint8_t theirs[SMALL];
-    uint32_t kind = some_kind(), number = TEALSETTLE_BAD_CHIP_LENGTH;
+    uint32_t kind = some_kind(), number = TEALSETTLE_REFUSED_BAD_CHIP_LENGTH;
     size_t length = some_number(16384, SMALL - 4096), update = some_number(12288, length - 4096);
     size_t area = one_in(30) ? SIZE_MAX - 4095 : some_number(4096, length > update ? length - update : 4096);
     size_t room = one_in(10) ? below(SMALL) : SMALL, place = 0;
@@ -214,7 +155,7 @@ int main(void)
     if (try_often(IMAGES, try_some_image) || try_often(CHIPS, try_some_chip) || try_often(BUILDS, try_build) || try_often(LARGE, try_large))
         return 1;
     printf("host test: %ld images, chips and builds tried, none differs (good %ld", tried, answers[0]);
-    print_refusals(answers);
-    printf("; chips stuck %ld, golden %ld, update %ld)\n", stuck, golden, updated);
+    print_boots();
+    printf(")\n");
     return 0;
 }

@@ -43,7 +43,7 @@ static inline int start_differs(uint32_t kind, ReferenceState given, const uint8
 {
     ReferenceState first = {0};
     size_t place = 0;
-    uint32_t number = TEALSETTLE_BAD_CHIP_LENGTH;
+    uint32_t number = TEALSETTLE_REFUSED_BAD_CHIP_LENGTH;
     if (kind == TEALSETTLE_SPI)
         number = reference_start(&first, given.length, given.update, given.area, image, given.image_length, &place);
     return differs("start: number", r.number, number) || differs("start: place", r.place, place) ||
@@ -53,7 +53,7 @@ static inline int start_differs(uint32_t kind, ReferenceState given, const uint8
 static inline int total_differs(uint32_t kind, ReferenceState given, TealsettleTotal r)
 {
     size_t orders = 0;
-    uint32_t number = TEALSETTLE_BAD_CHIP_LENGTH;
+    uint32_t number = TEALSETTLE_REFUSED_BAD_CHIP_LENGTH;
     if (kind == TEALSETTLE_SPI)
         number = reference_total(given.length, given.update, given.area, given.image_length, &orders);
     return differs("total: number", r.number, number) || differs("total: place", r.place, 0) ||
@@ -64,7 +64,7 @@ static inline int order_differs(uint32_t kind, ReferenceState s, const uint8_t *
 {
     ReferenceOrder o = {0};
     uint8_t padded_page[TEALSETTLE_PAGE];
-    uint32_t number = kind == TEALSETTLE_SPI ? reference_order(&s, image, lent, &o) : TEALSETTLE_BAD_STATE;
+    uint32_t number = kind == TEALSETTLE_SPI ? reference_order(&s, image, lent, &o) : TEALSETTLE_REFUSED_BAD_STATE;
     memset(padded_page, 0xFF, sizeof padded_page);
     if (o.operation == TEALSETTLE_PROGRAM)
         memcpy(padded_page, o.bytes, o.length);
@@ -83,7 +83,7 @@ typedef struct {
 static inline ExpectedReply expected_reply(uint32_t kind, ReferenceState s, const uint8_t *image, size_t lent,
                                            uint32_t reply_kind, const uint8_t *bytes, size_t length)
 {
-    ExpectedReply e = {TEALSETTLE_BAD_STATE, 0, s};
+    ExpectedReply e = {TEALSETTLE_REFUSED_BAD_STATE, 0, s};
     if (kind == TEALSETTLE_SPI)
         e.number = reference_reply(&e.state, image, lent, reply_kind, bytes, length, &e.place);
     return e;
@@ -92,14 +92,16 @@ static inline ExpectedReply expected_reply(uint32_t kind, ReferenceState s, cons
 static inline int reply_differs(TealsettleReply r, ExpectedReply e)
 {
     return differs("reply: number", r.number, e.number) || differs("reply: place", r.place, e.place) ||
-           differs("reply: stopped", r.stopped, e.number > TEALSETTLE_BAD_REPLY) ||
+           differs("reply: stopped", r.stopped, e.number > TEALSETTLE_REFUSED_BAD_REPLY) ||
            state_differs("reply: state", r.state, e.state);
 }
 
 static inline int finished_differs(uint32_t kind, ReferenceState s, TealsettleFinished r)
 {
     int ended = 0;
-    uint32_t outcome = 0, number = kind == TEALSETTLE_SPI ? reference_finished(&s, &ended, &outcome) : TEALSETTLE_BAD_STATE;
+    uint32_t outcome = 0, number = TEALSETTLE_REFUSED_BAD_STATE;
+    if (kind == TEALSETTLE_SPI)
+        number = reference_finished(&s, &ended, &outcome);
     return differs("finished: number", r.number, number) || differs("finished: place", r.place, 0) ||
            differs("finished: ended", r.ended, (size_t)ended) || differs("finished: outcome", r.outcome, outcome);
 }
@@ -114,7 +116,7 @@ static inline int try_often(long count, int (*try)(void))
 
 /* What was answered, and how often: by the number of a refusal, 0 where there was none. */
 
-enum { NUMBERS = TEALSETTLE_NO_ROOM + 1 };
+enum { NUMBERS = TEALSETTLE_REFUSED_NO_ROOM + 1 };
 
 static inline void print_refusals(const long *answers)
 {

@@ -202,7 +202,8 @@ static int reply_true(void)
 
 static int is_refusal_of_reply(uint32_t number)
 {
-    return number == TEALSETTLE_BAD_STATE || number == TEALSETTLE_RUN_ENDED || number == TEALSETTLE_BAD_REPLY;
+    return number == TEALSETTLE_REFUSED_BAD_STATE || number == TEALSETTLE_REFUSED_RUN_ENDED ||
+           number == TEALSETTLE_REFUSED_BAD_REPLY;
 }
 
 /* A reply that is refused: any image, any bytes, and maybe before its order. It changes nothing. */
@@ -367,7 +368,7 @@ static int try_life(void)
 
 static void print_stop(int number)
 {
-    printf(", %s%d %ld", number == TEALSETTLE_SWITCH_NOT_ERASED ? "stops " : "", number, answers[number]);
+    printf(", %s%d %ld", number == TEALSETTLE_STOPPED_SWITCH_NOT_ERASED ? "stops " : "", number, answers[number]);
 }
 
 int main(void)
@@ -376,9 +377,9 @@ int main(void)
         return 1;
     printf("host test: %ld events in %ld lives tried, what loads is right after each (an update after %ld; starts %ld, refused calls %ld",
            tried, lives, on_events, starts, refused);
-    print_stop(TEALSETTLE_SWITCH_NOT_ERASED);
-    print_stop(TEALSETTLE_UPDATE_DIFFERS);
-    print_stop(TEALSETTLE_SWITCH_NOT_ON);
+    print_stop(TEALSETTLE_STOPPED_SWITCH_NOT_ERASED);
+    print_stop(TEALSETTLE_STOPPED_UPDATE_DIFFERS);
+    print_stop(TEALSETTLE_STOPPED_SWITCH_NOT_ON);
     printf(", cuts %ld, uncut runs %ld)\n", cut, updated);
     return 0;
 }

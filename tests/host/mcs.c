@@ -124,13 +124,13 @@ static const File files[] = {
     {65536, 16, 0, 0, 0, 0},
     {65537, 16, 0, 1, 0, 0},
     {FILE_ROOM, 32, 0, 1, 0, 0},
-    {FILE_ROOM + 1, 32, 0, 1, TEALSETTLE_NO_ROOM, 0},
+    {FILE_ROOM + 1, 32, 0, 1, TEALSETTLE_REFUSED_NO_ROOM, 0},
     /* a record past a multiple of 65,536 */
-    {70000, 48, 0, 1, TEALSETTLE_BAD_ADDRESS, 147436},
-    {65537, 255, 0, 1, TEALSETTLE_BAD_ADDRESS, 134170}, /* by one byte */
+    {70000, 48, 0, 1, TEALSETTLE_REFUSED_BAD_ADDRESS, 147436},
+    {65537, 255, 0, 1, TEALSETTLE_REFUSED_BAD_ADDRESS, 134170}, /* by one byte */
     /* no type 04 record at 65,536: addresses do not wrap */
-    {65552, 16, 0, 0, TEALSETTLE_BAD_ADDRESS, 180240},
-    {65552, 16, 1, 0, TEALSETTLE_BAD_ADDRESS, 184337},
+    {65552, 16, 0, 0, TEALSETTLE_REFUSED_BAD_ADDRESS, 180240},
+    {65552, 16, 1, 0, TEALSETTLE_REFUSED_BAD_ADDRESS, 184337},
 };
 
 enum { FILES = sizeof files / sizeof files[0] };

@@ -11,7 +11,7 @@ static long answers[NUMBERS];
 
 static uint32_t some_stop(void)
 {
-    return TEALSETTLE_SWITCH_NOT_ERASED + (uint32_t)below(3);
+    return TEALSETTLE_STOPPED_SWITCH_NOT_ERASED + (uint32_t)below(3);
 }
 
 static ReferenceState some_state(void)

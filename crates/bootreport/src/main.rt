@@ -15,6 +15,13 @@ fn output() -> [u8; 65536] {
     [0; 65536]
 }
 
+// A program of this language has no exit status to fail with: so standard error says that a report is cut or lost.
+fn print(report: &[u8]) {
+    if !io::write_all(1, report) {
+        io::write_all(2, b"bootreport: the report could not be written whole\n");
+    }
+}
+
 fn main() {
     let mut text = input();
     let length = io::read_full(0, &mut text);
@@ -22,13 +29,13 @@ fn main() {
     let answer = report(&text[..length], &mut out);
     match answer {
         ReportAnswer::Written { length } => {
-            io::write_all(1, &out[..length]);
+            print(&out[..length]);
         }
         ReportAnswer::Refused {
             number: _,
             place: _,
         } => {
-            io::write_all(1, b"REFUSED 19 0\n");
+            print(b"REFUSED 19 0\n");
         }
     }
 }

@@ -1,4 +1,5 @@
 pub mod SwitchLaws
 pub mod SpiLaws
 pub mod CutLaws
+pub mod UpdatePlaceLaws
 pub mod Laws

@@ -20,7 +20,7 @@ use Rattle.kind.proofs.Laws.{chip-length-range, update-place-range}
 use Rattle.configreader.specs.Theorems.{NoneIn}
 use Rattle.configreader.proofs.Laws.{search-past, jumps-to, placed, placed-contents, ends-within}
 use Rattle.base.proofs.Laws.{false-true}
-use Rattle.framing.proofs.Laws.{differs-at, word-of}
+use Rattle.framing.proofs.Laws.{differs-at, word-of, bytes-word}
 use Rattle.kind.specs.Layout.{segment, switchAt, goldenAt}
 use Rattle.kind.specs.Spi.{spi, spiOn, spiWarmBoot}
 use Rattle.chip.specs.Chip.{switchWord, goldenArea, WellFormed, LoadsAlone, Loads, ContainsAt}
@@ -57,14 +57,6 @@ module _ (updatePlace : ℕ) (whole : updatePlace % 4096 ≡ 0) (short : updateP
 
   last : updatePlace % 256 ≡ 0
   last = omega arith
-
-  word : (updatePlace / 2 ^ 24 % 256 * 256 + updatePlace / 2 ^ 16 % 256) * 65536 + (updatePlace / 2 ^ 8 % 256 * 256 + updatePlace % 256) ≡ updatePlace
-  word =
-      let a : updatePlace / 65536 % 256 ≡ updatePlace / 65536 = omega arith in
-      let b : updatePlace / 256 % 256 ≡ updatePlace / 256 - 256 * (updatePlace / 65536) = omega arith in
-      let c : 256 * (updatePlace / 65536) ≤ updatePlace / 256 = omega arith in
-      let d : updatePlace ≡ 256 * (updatePlace / 256) = omega (arith, last) in
-      rw (top, last, a, b) (omega arith)
 
   -- In segment 1 a sync word could only begin at U's second byte.
   words-plain : (i : ℕ) → (i ≡ 5 → ⊥) → getD (spiWarmBoot updatePlace) i 0xFF ≡ 0xAA → ⊥
@@ -191,7 +183,7 @@ module _ (updatePlace : ℕ) (chip : List ℕ) (formed : WellFormed spi updatePl
       let l = long in (
         word-by 4096 0x30 0x02 0x00 0x01 (omega arith) (formed .words 0 (omega arith)) (formed .words 1 (omega arith)) (formed .words 2 (omega arith)) (formed .words 3 (omega arith)),
         word-by 4100 (updatePlace / 2 ^ 24 % 256) (updatePlace / 2 ^ 16 % 256) (updatePlace / 2 ^ 8 % 256) (updatePlace % 256) (omega arith) (formed .words 4 (omega arith)) (formed .words 5 (omega arith)) (formed .words 6 (omega arith)) (formed .words 7 (omega arith))
-            ∙ word updatePlace (room .0) short,
+            ∙ bytes-word updatePlace (let s = short in omega arith),
         word-by 4104 0x30 0x00 0x80 0x01 (omega arith) (formed .words 8 (omega arith)) (formed .words 9 (omega arith)) (formed .words 10 (omega arith)) (formed .words 11 (omega arith)),
         word-by 4108 0x00 0x00 0x00 0x0F (omega arith) (formed .words 12 (omega arith)) (formed .words 13 (omega arith)) (formed .words 14 (omega arith)) (formed .words 15 (omega arith)),
       )

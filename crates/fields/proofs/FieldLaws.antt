@@ -11,7 +11,7 @@ use lib.ListN.{length, getD, set, length-append}
 use lib.Seq.{paste}
 use Rattle.fields.specs.Fields.{decimalIn, decimal}
 use Rattle.digits.specs.Digit.{digits, hexadecimal}
-use Rattle.fields.proofs.PutLaws.{paste-one, Put, put-byte}
+use Rattle.fields.proofs.PutLaws.{paste-one, put-behind, Put, put-byte}
 
 -- A field of so many digits is so long.
 pub length-hexadecimal : (count n : ℕ) → length (hexadecimal count n) ≡ count
@@ -73,13 +73,13 @@ length-below (suc k) n h = go (ltb n 10) refl (length-below k (n / 10))
 pub length-word : (n : ℕ) → n < 2 ^ 64 → length (decimal n) ≤ 20
 length-word n h = length-below 19 n (let b : 2 ^ 64 ≤ 10 ^ 20 = lit≤ tt in omega arith)
 
--- The last hexadecimal digit is stored after the others.
-pub put-digit : (d mid : List ℕ) (at count n : ℕ) → (count ≡ 0 → ⊥) → at + count ≤ length d → mid ≡ paste d at (hexadecimal (count - 1) (n / 16)) (count - 1) →
-    set mid (at + (count - 1)) (getD digits (n % 16) 0) ≡ paste d at (hexadecimal count n) count
-put-digit d mid at count n h room e =
-    let p : Put d at (hexadecimal (count - 1) (n / 16)) (count - 1) mid = record { long = length-hexadecimal (count - 1) (n / 16); room = omega arith; is = e } in
+-- The last hexadecimal digit is stored before the others.
+pub digit-behind : (d : List ℕ) (at count n : ℕ) → (count ≡ 0 → ⊥) → at + count ≤ length d →
+    paste (set d (at + (count - 1)) (getD digits (n % 16) 0)) at (hexadecimal (count - 1) (n / 16)) (count - 1) ≡ paste d at (hexadecimal count n) count
+digit-behind d at count n h room =
     let one : count - 1 + 1 ≡ count = omega arith in
-    put-byte p (getD digits (n % 16) 0) (omega arith) .is ∙ ap₂ (λ (s : List ℕ) (k : ℕ). paste d at s k) (sym (hexadecimal-step count n h)) one
+    put-behind d at (hexadecimal (count - 1) (n / 16)) (count - 1) (getD digits (n % 16) 0) (length-hexadecimal (count - 1) (n / 16)) (omega arith)
+    ∙ ap₂ (λ (s : List ℕ) (k : ℕ). paste d at s k) (sym (hexadecimal-step count n h)) one
 
 -- A decimal digit is stored alone.
 pub put-only : (d : List ℕ) (at n : ℕ) → n < 10 → at + length (decimal n) ≤ length d → set d at (48 + n) ≡ paste d at (decimal n) (length (decimal n))

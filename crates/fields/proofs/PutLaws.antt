@@ -1,12 +1,12 @@
 -- Laws of text put into a buffer, one piece after the other.
-use Prim.Native.Nat.{ℕ, _+_, _-_, _<_, _≤_}
+use Prim.Native.Nat.{ℕ, suc, _+_, _-_, _<_, _≤_}
 use mathlib.Core.Path.{_≡_, refl, sym, ap, ap₂, subst, _∙_}
 use mathlib.Core.List.{List, [], _∷_, _++_, append-assoc, append-nil}
 use native.Mathlib.Nat.{add-assoc}
 use native.Mathlib.Numerals.{add-one}
 use native.Mathlib.Omega.{arith}
 use lib.ListN.{length, take, drop, set, length-append, length-drop, drop-of-length-le}
-use lib.Seq.{paste, take-all, drop-drop, append-snoc, set-split, length-paste, take-paste, drop-paste}
+use lib.Seq.{paste, take-all, drop-cons, drop-drop, append-snoc, set-split, lt-length-set, getD-set-same, take-set-le, drop-set-lt, length-paste, take-paste, drop-paste}
 
 -- A text put right after another is the two of them put in one.
 pub paste-paste : (d : List ℕ) (at : ℕ) (s : List ℕ) (m : ℕ) (t : List ℕ) (n : ℕ) → length s ≡ m → length t ≡ n → at + m ≤ length d →
@@ -25,6 +25,19 @@ paste-paste d at s m t n long more room =
 pub paste-one : (d : List ℕ) (at x : ℕ) → at < length d → set d at x ≡ paste d at (x ∷ []) 1
 paste-one d at x h =
     set-split d at x h ∙ sym (append-snoc (take at d) x (drop (at + 1) d) ∙ ap (λ (k : ℕ). take at d ++ x ∷ drop k d) (add-one at))
+
+-- A byte that is stored where a text will end: the two of them in one.
+pub put-behind : (d : List ℕ) (at : ℕ) (s : List ℕ) (m x : ℕ) → length s ≡ m → at + m < length d → paste (set d (at + m) x) at s m ≡ paste d at (s ++ x ∷ []) (m + 1)
+put-behind d at s m x long room =
+    let front : take at (set d (at + m) x) ≡ take at d = take-set-le at d (at + m) x (omega arith) in
+    let next : suc (at + m) ≡ at + (m + 1) = omega arith in
+    let back : drop (at + m) (set d (at + m) x) ≡ x ∷ drop (at + (m + 1)) d =
+    drop-cons (set d (at + m) x) (at + m) 0 (lt-length-set d (at + m) x room)
+    ∙ ap₂ _∷_ (getD-set-same d (at + m) x 0 room) (drop-set-lt (suc (at + m)) d (at + m) x (omega arith) ∙ ap (λ (k : ℕ). drop k d) next) in
+    let all : take (m + 1) (s ++ x ∷ []) ≡ s ++ x ∷ [] = take-all (m + 1) (s ++ x ∷ []) (omega (arith, length-append s (x ∷ []))) in
+    ap₂ _++_ (ap₂ _++_ front (take-all m s (omega arith))) back
+    ∙ sym (append-snoc (take at d ++ s) x (drop (at + (m + 1)) d))
+    ∙ ap (λ (l : List ℕ). l ++ drop (at + (m + 1)) d) (append-assoc (take at d) s (x ∷ []) ∙ ap (λ (l : List ℕ). take at d ++ l) (sym all))
 
 -- So does a copy to the front of what lies from the place on.
 pub paste-front : (d : List ℕ) (at : ℕ) (s after : List ℕ) → after ≡ take (length s) s ++ drop (length s) (take (length d - at) (drop at d)) →

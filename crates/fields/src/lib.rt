@@ -17,18 +17,18 @@ pub fn put(out: &mut [u8], at: usize, text: &[u8])
     bytes::copy(text, &mut out[at..]);
 }
 
-// So many hexadecimal digits of a number, at `at`. A number's digits come from its last to its first, so the
-// function calls itself for those before the last.
+// So many hexadecimal digits of a number, at `at`, from the last to the first.
 fn put_hexadecimal(out: &mut [u8], at: usize, count: usize, value: usize)
     requires { ⌜ at + count ≤ length (now out) ⌝ }
     ensures { λ r. ⌜ now (out .exit) ≡ paste (now (out .entry)) at (hexadecimal count value) count ⌝ }
 {
-    if count == 0 {
-        return;
+    let mut left = count;
+    let mut rest = value;
+    while left > 0 {
+        left -= 1;
+        out[at + left] = digit_character(rest % 16);
+        rest /= 16;
     }
-    let before = count - 1;
-    put_hexadecimal(out, at, before, value / 16);
-    out[at + before] = digit_character(value % 16);
 }
 
 // So many hexadecimal digits of a number, at `at`, and the byte after them.
@@ -51,8 +51,8 @@ pub fn decimal_length(value: usize) -> usize
     decimal_length(value / 10) + 1
 }
 
-// A number in decimal, at `at`; the place after it. It calls itself as `put_hexadecimal` does, 20 calls deep
-// at most.
+// A number in decimal, at `at`; the place after it. A number's digits come from its last to its first, and how many there
+// are is not known before: so the function calls itself for those before the last, 20 calls deep at most.
 fn put_decimal(out: &mut [u8], at: usize, value: usize) -> usize
     requires { ⌜ at + length (decimal value) ≤ length (now out) ⌝ }
     ensures { λ r. ⌜ r ≡ at + length (decimal value) ⌝ }

@@ -1,5 +1,5 @@
 -- Words by their place in the bytes.
-use Prim.Native.Nat.{ℕ, zero, suc, _+_, _-_, _*_, _/_, _<_, _≤_}
+use Prim.Native.Nat.{ℕ, zero, suc, _+_, _-_, _*_, _/_, _%_, _^_, _<_, _≤_}
 use mathlib.Core.Path.{_≡_, refl, sym, ap, _∙_}
 use mathlib.Core.List.{List, [], _∷_}
 use native.Mathlib.Nat.{add-zero}
@@ -41,6 +41,18 @@ word-of s at h = first (drop at s) (simp length-drop (omega arith)) ∙ simp (ge
     first (a ∷ b ∷ []) l = absurd (omega arith)
     first (a ∷ b ∷ c ∷ []) l = absurd (omega arith)
     first (a ∷ b ∷ c ∷ d ∷ xs) l = refl
+
+-- A word is made of its bytes, high byte first.
+pub bytes-word : (word : ℕ) → word < 2 ^ 32 → (word / 2 ^ 24 % 256 * 256 + word / 2 ^ 16 % 256) * 65536 + (word / 2 ^ 8 % 256 * 256 + word % 256) ≡ word
+bytes-word word h =
+    let a : word / 2 ^ 24 % 256 ≡ word / 2 ^ 24 = omega arith in
+    let b : word / 2 ^ 16 ≡ 256 * (word / 2 ^ 24) + word / 2 ^ 16 % 256 = omega arith in
+    let c : word / 2 ^ 8 ≡ 256 * (word / 2 ^ 16) + word / 2 ^ 8 % 256 = omega arith in
+    let d : word ≡ 256 * (word / 2 ^ 8) + word % 256 = omega arith in
+    glue (word / 2 ^ 24 % 256) (word / 2 ^ 16 % 256) (word / 2 ^ 8 % 256) (word % 256) (word / 2 ^ 24) (word / 2 ^ 16) (word / 2 ^ 8) word a b c d
+  where
+    glue : (a b c d n₂₄ n₁₆ n₈ n : ℕ) → a ≡ n₂₄ → n₁₆ ≡ 256 * n₂₄ + b → n₈ ≡ 256 * n₁₆ + c → n ≡ 256 * n₈ + d → (a * 256 + b) * 65536 + (c * 256 + d) ≡ n
+    glue a b c d n₂₄ n₁₆ n₈ n e₀ e₁ e₂ e₃ = omega arith
 
 -- the word after i more
 pub word-after : (s : List ℕ) (at i : ℕ) → getD (words (drop at s)) i 0 ≡ getD (words (drop (at + 4 * i) s)) 0 0

@@ -1,5 +1,5 @@
 -- Bytes to words. Document 01, "How the configuration reader reads".
-use Prim.Native.Nat.{ℕ, _+_, _*_}
+use Prim.Native.Nat.{ℕ, _+_, _*_, _/_, _%_, _^_}
 use mathlib.Core.List.{List, [], _∷_}
 use lib.ListN.{getD, drop}
 
@@ -14,3 +14,7 @@ words (a ∷ b ∷ c ∷ d ∷ bytes) = ((a * 256 + b) * 65536 + (c * 256 + d)) 
 -- the word at a place
 abbrev pub wordAt : List ℕ → ℕ → ℕ
 wordAt bytes place = getD (words (drop place bytes)) 0 0
+
+-- a word's bytes, high byte first
+abbrev pub bytesOf : ℕ → List ℕ
+bytesOf word = word / 2 ^ 24 % 256 ∷ word / 2 ^ 16 % 256 ∷ word / 2 ^ 8 % 256 ∷ word % 256 ∷ []

@@ -1,7 +1,7 @@
 -- The functions that a C host calls, each as one definition for what it returns and, where it writes, one for the lent bytes. Here: what loads.
 use Prim.Native.Nat.{ℕ}
 use mathlib.Core.List.{List}
-use Rattle.host.specs.Kinds.{askKind}
+use Rattle.results.specs.Kinds.{askKind}
 use Rattle.base.specs.Refusal.{badChipLength}
 use Rattle.kind.specs.Spi.{spi}
 use Rattle.bootreader.specs.Boot.{bootAnswer, chipWrite}

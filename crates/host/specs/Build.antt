@@ -2,7 +2,7 @@
 use Prim.Native.Nat.{ℕ}
 use mathlib.Core.List.{List}
 use lib.ListN.{length}
-use Rattle.host.specs.Kinds.{askKind}
+use Rattle.results.specs.Kinds.{askKind}
 use Rattle.base.specs.Refusal.{badChipLength}
 use Rattle.kind.specs.Spi.{spi}
 use Rattle.builder.specs.Builder.{buildAnswer, buildOutput}

@@ -1,6 +1,5 @@
 -- The functions that a C host calls.
 pub mod Types
-pub mod Kinds
 pub mod Boot
 pub mod Build
 pub mod Run

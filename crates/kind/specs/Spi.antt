@@ -1,13 +1,10 @@
 -- The kind of chip that the FPGA reads over SPI. Document 01, "The chip".
-use Prim.Native.Nat.{ℕ, _/_, _%_, _^_}
+use Prim.Native.Nat.{ℕ}
 use mathlib.Core.List.{List, [], _∷_, _++_}
 use Rattle.framing.specs.Search.{beginsWith}
+use Rattle.framing.specs.Words.{bytesOf}
 use Rattle.configreader.specs.Configreader.{readChip, readAlone, listed}
 use Rattle.kind.specs.Kind.{Kind}
-
--- A word's bytes, high byte first.
-abbrev pub bytesOf : ℕ → List ℕ
-bytesOf word = word / 2 ^ 24 % 256 ∷ word / 2 ^ 16 % 256 ∷ word / 2 ^ 8 % 256 ∷ word % 256 ∷ []
 
 -- ON is AA 99 55 66; all else is OFF.
 abbrev pub spiOn : List ℕ

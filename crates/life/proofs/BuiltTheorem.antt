@@ -14,12 +14,14 @@ use Rattle.kind.specs.Kind.{Kind}
 use Rattle.kind.specs.Spi.{spi}
 use Rattle.chip.specs.Chip.{switchWord, goldenArea, Loads, WellFormed, ContainsAt}
 use Rattle.builder.specs.Builder.{builtChip, buildAnswer}
-use Rattle.life.specs.Types.{Layout, Built}
-use Rattle.chip.proofs.Laws.{spi-lawful}
+use Rattle.life.specs.Types.{PlaceFound, Layout, Built}
+use Rattle.chip.specs.UpdatePlace.{placeAnswer}
+use Rattle.chip.proofs.Laws.{spi-lawful, named-place}
 use Rattle.builder.proofs.Laws.{questions, built-well-formed, built-off, built-loads}
 use Rattle.life.specs.Life.{fresh, Event, Valid, life, Claim, LifeBegins}
 use Rattle.life.specs.AsOrdered.{LiterallyValid}
-use Rattle.life.specs.Built.{Boots, BuiltDemand3, BuiltAsOrdered}
+use Rattle.life.specs.Built.{Boots, BuiltDemand3, BuiltAsOrdered, BuiltNamesPlace}
+use Rattle.life.proofs.LifeLaws.{lives, begins-hold}
 use Rattle.life.proofs.LifeTheorem.{Reads, claims}
 use Rattle.life.proofs.AsOrderedTheorem.{as-ordered}
 
@@ -90,8 +92,17 @@ module _ (layout : Layout) (golden : List ℕ) (room : ℕ) (built : buildAnswer
   claimed-as-ordered : (events : List Event) → LiterallyValid spi (layout .«update_place») (fresh chip) events → Claim spi (Boots spi) (layout .«update_place») golden (life spi (fresh chip) events)
   claimed-as-ordered events literal = claimed events (as-ordered spi spi-lawful .valid (layout .«update_place») (fresh chip) begins events literal)
 
+  -- The chip stays well-formed for its U, so it names it.
+  names : (events : List Event) → Valid spi (layout .«update_place») (fresh chip) events → placeAnswer spi (life spi (fresh chip) events .chip) ≡ PlaceFound (layout .«update_place»)
+  names events valid =
+      let inv = lives spi spi-lawful (layout .«update_place») (goldenArea (layout .«update_place») chip) events (fresh chip) (begins-hold spi (layout .«update_place») (fresh chip) begins) valid in
+      named-place .well-formed (layout .«update_place») (life spi (fresh chip) events .chip) (inv .formed)
+
 pub built-demand3 : BuiltDemand3
 built-demand3 = claimed
 
 pub built-as-ordered : BuiltAsOrdered
 built-as-ordered = claimed-as-ordered
+
+pub built-names-place : BuiltNamesPlace
+built-names-place = names

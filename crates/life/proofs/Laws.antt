@@ -11,7 +11,7 @@ use Rattle.life.proofs.EventLaws.{events-keep}
 use Rattle.life.proofs.BenchLifeTheorem.{bench-lives}
 use Rattle.life.proofs.LifeTheorem.{demand3}
 use Rattle.life.proofs.AsOrderedTheorem.{as-ordered}
-pub use Rattle.life.proofs.BuiltTheorem.{built-demand3, built-as-ordered}
+pub use Rattle.life.proofs.BuiltTheorem.{built-demand3, built-as-ordered, built-names-place}
 
 -- The SPI kind keeps its laws, so its runs give their orders,
 pub spi-demand2 : Demand2 spi

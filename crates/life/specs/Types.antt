@@ -3,6 +3,7 @@ pub use Rattle.configreader.specs.declared.Outcome.the-variants.{Loaded}
 pub use Rattle.kind.specs.declared.layout.Layout.{Layout}
 pub use Rattle.bootreader.specs.declared.boot.BootAnswer.the-variants.{Loaded as BootLoaded}
 pub use Rattle.bootreader.specs.declared.image.ImageAnswer.the-variants.{Accepted}
+pub use Rattle.chip.specs.declared.update_place.PlaceAnswer.the-variants.{Found as PlaceFound}
 pub use Rattle.builder.specs.declared.BuildAnswer.the-variants.{Built}
 pub use Rattle.updater.specs.declared.run.ReplyAnswer.{ReplyAnswer}
 pub use Rattle.updater.specs.declared.run.ReplyAnswer.the-variants.{Next, Stopped, Refused as ReplyRefused}

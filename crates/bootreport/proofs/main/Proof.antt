@@ -37,20 +37,20 @@ enum-known-answer c = search needs
 array-share-prefix-out : tie.Need-array-share-prefix-out
 array-share-prefix-out c = rw (c .before .before .before .before .report .ensures .1) (written-within (fileReport _) (c .before .before .before .before .before .before .before .output .result) (c .before .answer .given .0 .0) (sym (c .before .before .before .before .report .ensures .0 .same) ∙ c .before .answer .given .1))
 
-slice-aggregate-write-all : tie.Need-slice-aggregate-write-all
-slice-aggregate-write-all c = sym (length-take-le _ _ (rw (c .before .before .before .before .before .report .ensures .1) (written-within (fileReport _) (c .before .before .before .before .before .before .before .before .output .result) (c .before .before .answer .given .0 .0) (sym (c .before .before .before .before .before .report .ensures .0 .same) ∙ c .before .before .answer .given .1))))
+slice-aggregate-print : tie.Need-slice-aggregate-print
+slice-aggregate-print c = sym (length-take-le _ _ (rw (c .before .before .before .before .before .report .ensures .1) (written-within (fileReport _) (c .before .before .before .before .before .before .before .before .output .result) (c .before .before .answer .given .0 .0) (sym (c .before .before .before .before .before .report .ensures .0 .same) ∙ c .before .before .answer .given .1))))
 
-write-all-requires : tie.Need-write-all-requires
-write-all-requires c κs = search needs
+print-requires : tie.Need-print-requires
+print-requires c κs = search needs
 
 enum-told : tie.Need-enum-told
 enum-told c = search needs
 
-slice-aggregate-write-all-2 : tie.Need-slice-aggregate-write-all-2
-slice-aggregate-write-all-2 c = search needs
+slice-aggregate-print-2 : tie.Need-slice-aggregate-print-2
+slice-aggregate-print-2 c = search needs
 
-write-all-requires-2 : tie.Need-write-all-requires-2
-write-all-requires-2 c κs = search needs
+print-requires-2 : tie.Need-print-requires-2
+print-requires-2 c κs = search needs
 
 returns : tie.Need-returns
 returns c = search needs
@@ -72,10 +72,10 @@ main-spec =
     report-requires
     enum-known-answer
     array-share-prefix-out
-    slice-aggregate-write-all
-    write-all-requires
+    slice-aggregate-print
+    print-requires
     enum-told
-    slice-aggregate-write-all-2
-    write-all-requires-2
+    slice-aggregate-print-2
+    print-requires-2
     returns
     returns-2)

@@ -1,0 +1,103 @@
+/* All writes of a chip of 16 MiB, packets of one word: one by one, a call each, beside the same in plain C; and as a report,
+ * beside plain C that lists them in memory first. */
+#include "bench.h"
+
+#include <stdlib.h>
+
+#include "../include/tealsettle.h"
+#include "../reference/reference.h"
+
+enum { MOST_WRITES = MIB16 / 8 };
+
+typedef struct {
+    const uint8_t *chip;
+    ReferenceWrite *list;
+    uint8_t *report;
+    size_t writes, words, places, report_length;
+} Call;
+
+/* ---- One by one: how many there are, and the sums of their words and places ---- */
+
+static void add_write(Call *c, uint32_t word, size_t place)
+{
+    c->writes++;
+    c->words += word;
+    c->places += place;
+}
+
+static int ours_list(void *context)
+{
+    Call *c = context;
+    c->writes = c->words = c->places = 0;
+    TealsettleCursor cursor = tealsettle_writes(TEALSETTLE_SPI, c->chip, MIB16).cursor;
+    for (;;) {
+        TealsettleStep step = tealsettle_next_write(TEALSETTLE_SPI, TEALSETTLE_CURSOR(cursor), c->chip, MIB16);
+        if (!step.found)
+            return 1;
+        add_write(c, step.word, step.word_place);
+        cursor = step.cursor;
+    }
+}
+
+static int reference_list(void *context)
+{
+    Call *c = context;
+    ReferenceBoot boot = reference_boot(c->chip, MIB16);
+    ReferenceCursor cursor = {boot.sync + 4, 0, 0, boot.writes};
+    ReferenceWrite write;
+    c->writes = c->words = c->places = 0;
+    while (reference_next_write(&cursor, c->chip, MIB16, &write))
+        add_write(c, write.word, write.place);
+    return 1;
+}
+
+static Answer list_answer(void *context)
+{
+    Call *c = context;
+    return (Answer){{"writes", "sum of words", "sum of places"}, {c->writes, c->words, c->places}};
+}
+
+/* ---- As a report ---- */
+
+static int ours_report(void *context)
+{
+    Call *c = context;
+    c->report_length =
+        tealsettle_report(TEALSETTLE_SPI, c->chip, MIB16, c->report, TEALSETTLE_REPORT_ROOM(MOST_WRITES)).length;
+    return 1;
+}
+
+static int reference_report_job(void *context)
+{
+    Call *c = context;
+    ReferenceBoot boot = reference_boot_list(c->chip, MIB16, c->list, MOST_WRITES);
+    c->report_length = reference_report(&boot, c->list, c->report);
+    return 1;
+}
+
+/* The report's length, and a sum in which every byte and its place count. */
+static Answer report_answer(void *context)
+{
+    Call *c = context;
+    size_t sum = 0;
+    for (size_t i = 0; i < c->report_length; i++)
+        sum = 31 * sum + c->report[i];
+    return (Answer){{"length", "sum of bytes"}, {c->report_length, sum}};
+}
+
+void list_rows(void)
+{
+    uint8_t *chip = buffer(MIB16);
+    size_t packets = make_ones(chip);
+    Call ours = {.chip = chip, .report = buffer(TEALSETTLE_REPORT_ROOM(MOST_WRITES))};
+    Call peer = {.chip = chip, .report = buffer(TEALSETTLE_REPORT_ROOM(MOST_WRITES)),
+                 .list = buffer(MOST_WRITES * sizeof(ReferenceWrite))};
+    Row row = {"writes one by one: packets of 1 word", MIB16, packets, "packets", AS_PLAIN,
+               {"tealsettle", ours_list, list_answer, &ours}, {"plain C", reference_list, list_answer, &peer}};
+    table_row(&row);
+    row.name = "report: packets of 1 word";
+    row.ours = (Side){"tealsettle", ours_report, report_answer, &ours};
+    row.peer = (Side){"plain C", reference_report_job, report_answer, &peer};
+    table_row(&row);
+    free(chip), free(ours.report), free(peer.report), free(peer.list);
+}

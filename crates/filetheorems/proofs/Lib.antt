@@ -1,0 +1,4 @@
+pub mod ListLaws
+pub mod ReportLaws
+pub mod FormLaws
+pub mod Laws

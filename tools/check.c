@@ -1,0 +1,48 @@
+/* tealsettle check: what an image loads by itself. */
+#include "tool.h"
+
+/* One pass over the image, in the lines of a boot report. */
+static void print_writes(const File *image)
+{
+    TealsettleCursor cursor = tealsettle_image_writes(TEALSETTLE_SPI, image->bytes, image->length).cursor;
+    for (;;) {
+        TealsettleStep step =
+            tealsettle_next_write(TEALSETTLE_SPI, TEALSETTLE_CURSOR(cursor), image->bytes, image->length);
+        if (!step.found)
+            return;
+        printf("WRITE %02X %08X %08zX\n", (unsigned)step.register_number, (unsigned)step.word, step.word_place);
+        cursor = step.cursor;
+    }
+}
+
+static int check(const Arguments *arguments)
+{
+    File image;
+    int status = read_image(arguments->files[0], &image);
+    if (status != DONE)
+        return status;
+    TealsettleImage answer = tealsettle_image_check(TEALSETTLE_SPI, image.bytes, image.length);
+    if (answer.number != 0)
+        return refused(image.name, answer.number, answer.place);
+    if (arguments->writes)
+        print_writes(&image);
+    printf("image of %zu bytes: sync %zu, end %zu, writes %zu\n", image.length, answer.sync, answer.end, answer.writes);
+    return DONE;
+}
+
+const Command check_command = {
+    .name = "check",
+    .usage = "[-w] IMAGE",
+    .purpose = "What an image loads by itself, or why no chip can be given it",
+    .help = "IMAGE is MCS text, a BIT file or the image itself, told by its bytes; - is standard input.\n"
+            "\n"
+            "  -w  every write too: register, word and its place in the image, as in a boot report\n"
+            "\n"
+            "The last line has the place of the sync word, the place after the last word, and the number of writes.\n"
+            "\n"
+            "Exit status: 0 the image is accepted; 1 it is refused; 2 wrong use, or trouble with a file.\n",
+    .options = "w",
+    .needed = "",
+    .files = 1,
+    .run = check,
+};
