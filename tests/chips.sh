@@ -7,7 +7,7 @@
 status=0       # of the last command
 ordered=none   # the image of the last run that ordered the switch on
 switch=OFF     # the switch word after the last run
-stops=0 refusals=0 outputs=0
+kills=0 stops=0 refusals=0 outputs=0
 
 # What a run that ends well says.
 declare -A said=(
@@ -126,6 +126,19 @@ run_uncut() {
     run_failing "$1"
     [ "$status $switch $(<"$work/said")" = "0 ON ${said[$1]}" ] || fail "an uncut run has not brought the $1 image"
     verify "an uncut run"
+}
+
+# A run that is killed from outside after so many seconds, unless it ends before: gone when this returns (`--foreground` waits).
+run_killed() {
+    local image=$1 delay=$2
+    shift 2
+    status=0
+    { timeout --foreground --preserve-status -s KILL "$delay" "$@" "$chip" "$work/$image.mcs" >"$work/said" 2>"$progress"; } 2>/dev/null || status=$?
+    [[ "$status" == 0 || "$status" == 137 ]] || fail "a run that was to be killed ended with $status: $(<"$progress")"
+    if [ "$status" -eq 137 ]; then kills=$((kills + 1)); fi
+    read_switch
+    note_run "$image"
+    verify "killed after $delay s"
 }
 
 # On a chip with an update, the first write at one address does nothing: the run stops, says so, and is started again.

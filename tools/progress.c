@@ -14,8 +14,9 @@ enum {
 };
 
 static bool shown;      /* is there a bar? */
+static uint32_t last;   /* the phase that was shown last */
 static long long begun; /* when the run began, in milliseconds, */
-static long long next;  /* and when the bar is to be drawn again */
+static long long next;  /* and when the bar is to be drawn again, also in the same phase */
 
 static long long milliseconds(void)
 {
@@ -53,15 +54,6 @@ static void draw_bar(uint32_t phase, size_t done, size_t total)
     shown = true;
 }
 
-static void show_line(uint32_t phase, size_t number, size_t total)
-{
-    static uint32_t last = UINT32_MAX;
-    if (phase == last)
-        return;
-    last = phase;
-    fprintf(stderr, "order %zu of %zu: %s\n", number, total, phase_words(phase));
-}
-
 /* A terminal on which the bar is one line. (One that does not say how wide it is has 80 columns.) */
 static bool has_room_for_bar(void)
 {
@@ -74,12 +66,15 @@ static bool has_room_for_bar(void)
 void show_progress(uint32_t phase, size_t number, size_t total)
 {
     long long now = milliseconds();
+    bool begins = number == 1 || phase != last;
     if (number == 1)
-        begun = next = now;
+        begun = now;
+    last = phase;
     if (!has_room_for_bar()) {
         end_progress();
-        show_line(phase, number, total);
-    } else if (now >= next) {
+        if (begins)
+            fprintf(stderr, "order %zu of %zu: %s\n", number, total, phase_words(phase));
+    } else if (begins || now >= next) {
         next = now + SHOWN_EVERY;
         draw_bar(phase, number - 1, total);
     }
