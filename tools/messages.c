@@ -8,7 +8,7 @@
 _Noreturn void trouble(const char *what, const char *why)
 {
     end_progress();
-    fprintf(stderr, "tealsettle: %s: %s\n", what, why);
+    fprintf(stderr, "tealsettle: %s: %s\n", *what ? what : "''", why);
     exit(TROUBLE);
 }
 
