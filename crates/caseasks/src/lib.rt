@@ -29,7 +29,7 @@ fn numbers_wanted(key: u64) -> usize {
         words::WRITE | words::ITEM => 1,
         words::LAYOUT | words::BUILD | words::START | words::CUT => 3,
         words::TOTAL => 4,
-        words::ORDER | words::ENDED => 7,
+        words::ORDER | words::ENDED | words::PROGRESS => 7,
         words::REPLY => 8,
         _ => 0,
     }
@@ -38,7 +38,7 @@ fn numbers_wanted(key: u64) -> usize {
 // How many fields it wants.
 fn fields_wanted(key: u64) -> usize {
     match key {
-        words::LAYOUT | words::TOTAL | words::ENDED => 0,
+        words::LAYOUT | words::TOTAL | words::ENDED | words::PROGRESS => 0,
         words::BUILD | words::REPLY | words::READ => 2,
         words::CUT => 3,
         _ => 1,

@@ -5,6 +5,8 @@ pub const ACCEPTED: u64 = 0x6163_6365_7074_6564;
 
 pub const ALLOWED: u64 = 0x0061_6C6C_6F77_6564;
 
+pub const AT: u64 = 0x6174;
+
 pub const BOOT: u64 = 0x626F_6F74;
 
 pub const BUILD: u64 = 0x0062_7569_6C64;
@@ -50,6 +52,8 @@ pub const PACKET: u64 = 0x7061_636B_6574;
 pub const PACKETS: u64 = 0x0070_6163_6B65_7473;
 
 pub const PROGRAM: u64 = 0x0070_726F_6772_616D;
+
+pub const PROGRESS: u64 = 0x7072_6F67_7265_7373;
 
 pub const REACHED: u64 = 0x0072_6561_6368_6564;
 

@@ -3,19 +3,15 @@ use Prim.Native.Nat.{ℕ}
 use mathlib.Core.List.{List}
 use Rattle.results.specs.Kinds.{askKind}
 use Rattle.base.specs.Refusal.{badChipLength, badState}
-use Rattle.host.specs.Types.{Layout, State, ReplyRefused, FinishedRefused, StartRefused, TotalRefused, TealsettleStart, TealsettleTotal, TealsettleOrder, TealsettleReply, TealsettleFinished}
+use Rattle.host.specs.Types.{Layout, State, ReplyRefused, FinishedRefused, StartRefused, TealsettleStart, TealsettleOrder, TealsettleReply, TealsettleFinished}
 use Rattle.kind.specs.Spi.{spi}
-use Rattle.starts.specs.Starts.{startAnswer, totalAnswer}
+use Rattle.starts.specs.Starts.{startAnswer}
 use Rattle.updater.specs.Run.{orderRefused, orderAnswer, replyAnswer, finishedAnswer}
-use Rattle.runresults.specs.Run.{startResult, totalResult, orderResult, replyResult, finishedResult}
+use Rattle.runresults.specs.Run.{startResult, orderResult, replyResult, finishedResult}
 
 -- `tealsettle_start`
 abbrev pub startCall : ℕ → Layout → List ℕ → TealsettleStart
 startCall kind layout image = startResult (askKind kind (StartRefused badChipLength 0) (startAnswer spi layout image))
-
--- `tealsettle_total`
-abbrev pub totalCall : ℕ → Layout → ℕ → TealsettleTotal
-totalCall kind layout n = totalResult (askKind kind (TotalRefused badChipLength 0) (totalAnswer layout n))
 
 -- `tealsettle_order`
 abbrev pub orderCall : ℕ → State → List ℕ → TealsettleOrder

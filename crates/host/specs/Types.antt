@@ -8,7 +8,6 @@ pub use Rattle.updater.specs.declared.run.FinishedAnswer.the-variants.{Refused 
 pub use Rattle.updater.specs.declared.run.ReplyAnswer.the-variants.{Refused as ReplyRefused}
 pub use Rattle.updater.specs.declared.state.State.{State}
 pub use Rattle.starts.specs.declared.StartAnswer.the-variants.{Refused as StartRefused}
-pub use Rattle.starts.specs.declared.TotalAnswer.the-variants.{Refused as TotalRefused}
 pub use Rattle.bench.specs.declared.BenchAnswer.the-variants.{Refused as BenchRefused}
 pub use Rattle.results.specs.declared.boot.TealsettleBoot.{TealsettleBoot}
 pub use Rattle.results.specs.declared.boot.TealsettleImage.{TealsettleImage}
@@ -19,4 +18,3 @@ pub use Rattle.runresults.specs.declared.run.TealsettleFinished.{TealsettleFini
 pub use Rattle.runresults.specs.declared.run.TealsettleOrder.{TealsettleOrder}
 pub use Rattle.runresults.specs.declared.run.TealsettleReply.{TealsettleReply}
 pub use Rattle.runresults.specs.declared.run.TealsettleStart.{TealsettleStart}
-pub use Rattle.runresults.specs.declared.run.TealsettleTotal.{TealsettleTotal}

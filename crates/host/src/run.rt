@@ -2,14 +2,13 @@
 ghost use mathlib.Core.Path.{_≡_};
 ghost use Rattle.kind.specs.Layout.{layoutOf};
 ghost use Rattle.runresults.specs.Run.{stateOf};
-ghost use Rattle.host.specs.Run.{startCall, totalCall, orderCall, replyCall, finishedCall};
+ghost use Rattle.host.specs.Run.{startCall, orderCall, replyCall, finishedCall};
 use base::refusal;
 use kind::spi::Spi;
 use runresults::run::TealsettleFinished;
 use runresults::run::TealsettleOrder;
 use runresults::run::TealsettleReply;
 use runresults::run::TealsettleStart;
-use runresults::run::TealsettleTotal;
 use runresults::run::finished_result;
 use runresults::run::order_of;
 use runresults::run::refused_order;
@@ -17,11 +16,8 @@ use runresults::run::replied;
 use runresults::run::reply_of;
 use runresults::run::start_result;
 use runresults::run::state_of;
-use runresults::run::total_result;
 use starts::StartAnswer;
-use starts::TotalAnswer;
 use starts::start;
-use starts::total;
 use updater::run::FinishedAnswer;
 
 // Starts a run.
@@ -43,27 +39,6 @@ pub extern "C" fn tealsettle_start(
         answer = start(Spi::layout(length, update, area), image);
     }
     start_result(answer)
-}
-
-// How many orders a run has with an image of `n` bytes.
-#[no_mangle]
-pub extern "C" fn tealsettle_total(
-    kind: u32,
-    length: usize,
-    update: usize,
-    area: usize,
-    n: usize,
-) -> TealsettleTotal
-    ensures { λ r. ⌜ r ≡ totalCall kind (layoutOf length update area) n ⌝ }
-{
-    let mut answer = TotalAnswer::Refused {
-        number: refusal::BAD_CHIP_LENGTH,
-        place: 0,
-    };
-    if Spi::has_number(kind) {
-        answer = total(Spi::layout(length, update, area), n);
-    }
-    total_result(answer)
 }
 
 // The order that a state asks for.

@@ -11,7 +11,8 @@ use host::run::tealsettle_finished;
 use host::run::tealsettle_order;
 use host::run::tealsettle_reply;
 use host::run::tealsettle_start;
-use host::run::tealsettle_total;
+use hostcounts::tealsettle_progress;
+use hostcounts::tealsettle_total;
 use kind::layout::LayoutAnswer;
 use kind::spi::Spi;
 
@@ -111,6 +112,13 @@ fn ended(n: Numbers) {
     say::number(answer.outcome as usize);
 }
 
+fn progress(n: Numbers) {
+    let answer = tealsettle_progress(SPI, n.b, n.c, n.d, n.e, narrow(n.f), n.g, narrow(n.h));
+    say::result(words::AT, words::REFUSED, answer.number, answer.place);
+    say::number(answer.order);
+    say::number(answer.orders);
+}
+
 // A call that changes no byte.
 pub fn call(case: Case, given: &[u8]) {
     let key = case.key;
@@ -119,6 +127,7 @@ pub fn call(case: Case, given: &[u8]) {
         words::LAYOUT => layout(case.n),
         words::TOTAL => total(case.n),
         words::ENDED => ended(case.n),
+        words::PROGRESS => progress(case.n),
         words::START => start(case.n, last),
         words::ORDER => order(case.n, last),
         _ => reply(case.n, field(given, case.second, case.third), last),

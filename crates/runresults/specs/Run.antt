@@ -5,8 +5,8 @@ use lib.ListN.{getD, drop}
 use Rattle.base.specs.Answer.{value}
 use Rattle.kind.specs.Layout.{layoutOf}
 use Rattle.updater.specs.Run.{finishedNumbers, orderNumbers, replyNumbers}
-use Rattle.starts.specs.Starts.{startNumbers, totalNumbers}
-use Rattle.runresults.specs.Types.{State, OrderAnswer, ReplyAnswer, FinishedAnswer, StartAnswer, TotalAnswer, TealsettleState, TealsettleStart, TealsettleTotal, TealsettleOrder, TealsettleReply, TealsettleFinished}
+use Rattle.starts.specs.Starts.{startNumbers}
+use Rattle.runresults.specs.Types.{State, OrderAnswer, ReplyAnswer, FinishedAnswer, StartAnswer, TealsettleState, TealsettleStart, TealsettleOrder, TealsettleReply, TealsettleFinished}
 
 -- The state that a host's numbers are, and a state's numbers, each in its field.
 abbrev pub stateOf : ℕ → ℕ → ℕ → ℕ → ℕ → ℕ → ℕ → State
@@ -29,14 +29,6 @@ startResult answer = record {
   number = startNumbers answer .number;
   place = startNumbers answer .place;
   state = stateFields (startNumbers answer .values);
-}
-
--- `tealsettle_total`: how many orders, or a refusal
-unfoldable pub totalResult : TotalAnswer → TealsettleTotal
-totalResult answer = record {
-  number = totalNumbers answer .number;
-  place = totalNumbers answer .place;
-  orders = value (totalNumbers answer) 0;
 }
 
 -- `tealsettle_order`: 1 erase, 2 program or 3 look, its span and its bytes; or a refusal

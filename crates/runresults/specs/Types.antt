@@ -7,11 +7,13 @@ pub use Rattle.updater.specs.declared.run.ReplyAnswer.{ReplyAnswer}
 pub use Rattle.updater.specs.declared.state.State.{State}
 pub use Rattle.starts.specs.declared.StartAnswer.{StartAnswer}
 pub use Rattle.starts.specs.declared.TotalAnswer.{TotalAnswer}
+pub use Rattle.starts.specs.declared.ProgressAnswer.{ProgressAnswer}
 pub use Rattle.bench.specs.declared.BenchAnswer.{BenchAnswer}
+pub use Rattle.runresults.specs.declared.counts.TealsettleProgress.{TealsettleProgress}
+pub use Rattle.runresults.specs.declared.counts.TealsettleTotal.{TealsettleTotal}
 pub use Rattle.runresults.specs.declared.cut.TealsettleBench.{TealsettleBench}
 pub use Rattle.runresults.specs.declared.run.TealsettleFinished.{TealsettleFinished}
 pub use Rattle.runresults.specs.declared.run.TealsettleOrder.{TealsettleOrder}
 pub use Rattle.runresults.specs.declared.run.TealsettleReply.{TealsettleReply}
 pub use Rattle.runresults.specs.declared.run.TealsettleStart.{TealsettleStart}
 pub use Rattle.runresults.specs.declared.run.TealsettleState.{TealsettleState}
-pub use Rattle.runresults.specs.declared.run.TealsettleTotal.{TealsettleTotal}

@@ -4,13 +4,12 @@ ghost use mathlib.Core.Path.{_≡_};
 ghost use mathlib.Core.List.{List};
 ghost use Rattle.kind.specs.Spi.{spi};
 ghost use Rattle.updater.specs.Run.{orderRefused, orderAnswer, replyAnswer};
-ghost use Rattle.runresults.specs.Run.{stateOf, startResult, totalResult, orderResult, replyResult, finishedResult};
+ghost use Rattle.runresults.specs.Run.{stateOf, startResult, orderResult, replyResult, finishedResult};
 ghost use Rattle.runresults.specs.Internal.{stateResult, noState, orderWith, orderBeside, replied};
 ghost use Rattle.runresults.specs.Types.{Ordered};
 use kind::spi::Spi;
 use orders::Operation;
 use starts::StartAnswer;
-use starts::TotalAnswer;
 use updater::run::FinishedAnswer;
 use updater::run::OrderResult;
 use updater::run::ReplyAnswer;
@@ -34,14 +33,6 @@ pub struct TealsettleStart {
     pub number: u32,
     pub place: usize,
     pub state: TealsettleState,
-}
-
-// A refusal's number and place, or 0, 0 and how many orders.
-#[repr(C)]
-pub struct TealsettleTotal {
-    pub number: u32,
-    pub place: usize,
-    pub orders: usize,
 }
 
 // A refusal's number and place; or 0, 0 and the operation (1 erase, 2 program, 3 look), its span, and the
@@ -160,23 +151,6 @@ pub fn start_result(answer: StartAnswer) -> TealsettleStart
                 state: no_state(),
             };
         }
-    }
-}
-
-pub fn total_result(answer: TotalAnswer) -> TealsettleTotal
-    ensures { λ r. ⌜ r ≡ totalResult answer ⌝ }
-{
-    match answer {
-        TotalAnswer::Total { orders } => TealsettleTotal {
-            number: 0,
-            place: 0,
-            orders,
-        },
-        TotalAnswer::Refused { number, place } => TealsettleTotal {
-            number,
-            place,
-            orders: 0,
-        },
     }
 }
 

@@ -1,2 +1,3 @@
 pub mod StartLaws
+pub mod ProgressLaws
 pub mod Laws

@@ -1,10 +1,14 @@
-// The start of a run, and how many orders it has.
+// The start of a run, how many orders it has, and the number of an order among them.
+ghost use Prim.Native.Nat.{_+_};
 ghost use mathlib.Core.Path.{_≡_};
+ghost use mathlib.Core.Bool.{true};
 ghost use Rattle.base.specs.Answer.{Gives};
 ghost use Rattle.kind.specs.Layout.{layoutAnswer};
-ghost use Rattle.starts.specs.Types.{LayoutAllowed};
+ghost use Rattle.starts.specs.Types.{LayoutAllowed, Progress};
 ghost use Rattle.kind.specs.Spi.{spi};
-ghost use Rattle.starts.specs.Starts.{startNumbers, startAnswer, totalNumbers, totalAnswer};
+ghost use Rattle.orders.specs.Table.{total};
+ghost use Rattle.updater.specs.State.{position, running, fits};
+ghost use Rattle.starts.specs.Starts.{startNumbers, startAnswer, totalNumbers, totalAnswer, progressNumbers, progressAnswer};
 use base::refusal;
 use bootreader::image::ImageAnswer;
 use bootreader::image::check_within;
@@ -12,6 +16,7 @@ use kind::layout::Layout;
 use kind::layout::LayoutAnswer;
 use kind::layout::image_length_allowed;
 use orders::orders_before;
+use updater::run::FinishedAnswer;
 use updater::state::State;
 
 // The first state of a run, or a refusal.
@@ -23,6 +28,12 @@ pub enum StartAnswer {
 // How many orders an uncut run has.
 pub enum TotalAnswer {
     Total { orders: usize },
+    Refused { number: u32, place: usize },
+}
+
+// The number of a state's order in its run, counted from 1, and how many orders the run has.
+pub enum ProgressAnswer {
+    At { order: usize, orders: usize },
     Refused { number: u32, place: usize },
 }
 
@@ -85,5 +96,33 @@ pub fn total(layout: Layout, image_length: usize) -> TotalAnswer
     match allowed {
         LayoutAnswer::Allowed => total_allowed(layout, image_length),
         LayoutAnswer::Refused { number, place } => TotalAnswer::Refused { number, place },
+    }
+}
+
+// The number of the order that a state asks for, and how many there are.
+fn progress_running(state: State) -> ProgressAnswer
+    requires { ⌜ (fits state (state .«image_length») ≡ true) × (running state ≡ true) ⌝ }
+    ensures { λ r. ⌜ r ≡ Progress (position state + 1) (total (state .layout) (state .«image_length»)) ⌝ }
+{
+    let before = orders_before(state.layout, state.image_length, state.phase);
+    ProgressAnswer::At {
+        order: before + state.index + 1,
+        orders: orders_before(state.layout, state.image_length, 7),
+    }
+}
+
+// The number of the order that a state asks for, counted from 1, and how many its run has; or refusal 7 or 8. No image
+// is lent.
+pub fn progress(state: State) -> ProgressAnswer
+    ensures { λ r. ⌜ Gives progressNumbers r (progressAnswer state) ⌝ }
+{
+    let finished = state.finished();
+    match finished {
+        FinishedAnswer::Running => progress_running(state),
+        FinishedAnswer::Ended { outcome: _ } => ProgressAnswer::Refused {
+            number: refusal::RUN_ENDED,
+            place: 0,
+        },
+        FinishedAnswer::Refused { number, place } => ProgressAnswer::Refused { number, place },
     }
 }

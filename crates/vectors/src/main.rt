@@ -41,8 +41,13 @@ fn call(case: Case, given: &[u8]) {
     let key = case.key;
     match key {
         words::BUILD | words::READ | words::CUT => lentcases::call(case, given),
-        words::LAYOUT | words::TOTAL | words::ENDED | words::START | words::ORDER | words::REPLY =>
-            runcases::call(case, given),
+        words::LAYOUT
+        | words::TOTAL
+        | words::ENDED
+        | words::PROGRESS
+        | words::START
+        | words::ORDER
+        | words::REPLY => runcases::call(case, given),
         words::BOOT | words::SWITCH | words::WRITE | words::LIST => chipcases::call_chip(
             case,
             given,

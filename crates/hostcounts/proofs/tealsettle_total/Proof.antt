@@ -1,12 +1,12 @@
 -- `tealsettle_total` meets its contract.
-use Rattle.runresults.specs.Run.{totalResult}
+use Rattle.runresults.specs.Counts.{totalResult}
 use Rattle.base.specs.Question.{ask}
 use Rattle.starts.specs.Starts.{totalAnswer}
 use mathlib.Core.Logic.{⊎-elim}
 use mathlib.Core.Path.{sym, ap, _∙_}
 use borrow.Author.Needs.{needs}
-use Rattle.host.proofs.run.tealsettle_total.Statement.{statement}
-use Rattle.host.proofs.run.tealsettle_total.Tie as tie
+use Rattle.hostcounts.proofs.tealsettle_total.Statement.{statement}
+use Rattle.hostcounts.proofs.tealsettle_total.Tie as tie
 
 has-number-requires : tie.Need-has-number-requires
 has-number-requires c κs = search needs

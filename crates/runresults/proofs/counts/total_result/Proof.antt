@@ -1,10 +1,10 @@
 -- `total_result` meets its contract.
 use Rattle.starts.specs.Starts.{totalNumbers}
-use Rattle.runresults.specs.Run.{totalResult}
+use Rattle.runresults.specs.Counts.{totalResult}
 use mathlib.Core.Path.{refl}
 use borrow.Author.Needs.{needs}
-use Rattle.runresults.proofs.run.total_result.Statement.{statement}
-use Rattle.runresults.proofs.run.total_result.Tie as tie
+use Rattle.runresults.proofs.counts.total_result.Statement.{statement}
+use Rattle.runresults.proofs.counts.total_result.Tie as tie
 
 enum-known-answer : tie.Need-enum-known-answer
 enum-known-answer c = search needs

@@ -1,0 +1,62 @@
+// Functions that a printer's C host calls on numbers alone (include/tealsettle.h), in a library of their own beside
+// crates `host` and `hostfiles`: how many orders a run has, and the number of one of them.
+ghost use mathlib.Core.Path.{_≡_};
+ghost use Rattle.kind.specs.Layout.{layoutOf};
+ghost use Rattle.runresults.specs.Run.{stateOf};
+ghost use Rattle.hostcounts.specs.Hostcounts.{totalCall, progressCall};
+use base::refusal;
+use kind::spi::Spi;
+use runresults::counts::TealsettleProgress;
+use runresults::counts::TealsettleTotal;
+use runresults::counts::progress_result;
+use runresults::counts::total_result;
+use runresults::run::state_of;
+use starts::ProgressAnswer;
+use starts::TotalAnswer;
+use starts::progress;
+use starts::total;
+
+// How many orders a run has with an image of `n` bytes.
+#[no_mangle]
+pub extern "C" fn tealsettle_total(
+    kind: u32,
+    length: usize,
+    update: usize,
+    area: usize,
+    n: usize,
+) -> TealsettleTotal
+    ensures { λ r. ⌜ r ≡ totalCall kind (layoutOf length update area) n ⌝ }
+{
+    let mut answer = TotalAnswer::Refused {
+        number: refusal::BAD_CHIP_LENGTH,
+        place: 0,
+    };
+    if Spi::has_number(kind) {
+        answer = total(Spi::layout(length, update, area), n);
+    }
+    total_result(answer)
+}
+
+// The number of the order that a state asks for, counted from 1, and how many its run has.
+#[no_mangle]
+pub extern "C" fn tealsettle_progress(
+    kind: u32,
+    length: usize,
+    update: usize,
+    area: usize,
+    n: usize,
+    phase: u32,
+    index: usize,
+    outcome: u32,
+) -> TealsettleProgress
+    ensures { λ r. ⌜ r ≡ progressCall kind (stateOf length update area n phase index outcome) ⌝ }
+{
+    let mut answer = ProgressAnswer::Refused {
+        number: refusal::BAD_STATE,
+        place: 0,
+    };
+    if Spi::has_number(kind) {
+        answer = progress(state_of(length, update, area, n, phase, index, outcome));
+    }
+    progress_result(answer)
+}
