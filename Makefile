@@ -21,7 +21,10 @@ endif
 export RT_JOBS ?= $(shell echo $$(($$(nproc) + 1)))
 
 PROVED := crates.txt $(shell find crates -name '*.rt' -o -name '*.antt')
-BELOW := $(sort $(shell sed -n 's/^host: //p; s/^hostfiles: //p' crates.txt))
+# The crates whose functions C calls. An archive of the kit has the functions of one, so ours is joined from theirs.
+EXPORTED := host hostcounts hostfiles
+BELOW := $(sort $(foreach crate,$(EXPORTED),$(shell sed -n "s/^$(crate): //p" crates.txt)))
+PARTS := $(patsubst library/%.c,target/library/%.o,$(wildcard library/*.c))
 OBJECTS := $(patsubst tools/%.c,target/tools/%.o,$(wildcard tools/*.c))
 VERSION := $(shell sed -n 's/^.define TEALSETTLE_VERSION "\(.*\)"$$/\1/p' include/tealsettle.h)
 
@@ -34,17 +37,21 @@ target/bin/bootreport: $(PROVED)
 	@rt check $(BELOW) bootreport >target/proved.log 2>&1 || { cat target/proved.log; exit 1; }
 	@touch $@
 
-# An archive of the kit has the functions of one crate, so ours is joined from two.
 target/staticlib/lib%.a: target/bin/bootreport
 	@echo "rt staticlib $*: proves it and makes its archive (target/$*.log)"
 	@rt staticlib $* >target/$*.log 2>&1 || { cat target/$*.log; exit 1; }
 	@touch $@
 
-target/libtealsettle.a: target/staticlib/libhost.a target/staticlib/libhostfiles.a
+# The part of the library that is plain C. Position-independent, as the rest is, so that it can be put into a shared library.
+target/library/%.o: library/%.c include/tealsettle.h
+	@mkdir -p target/library
+	$(CC) $(CFLAGS) $(CPPFLAGS) -fPIC -c -o $@ $<
+
+target/libtealsettle.a: $(EXPORTED:%=target/staticlib/lib%.a) $(PARTS)
 	rm -rf $@ target/parts
 	mkdir -p target/parts
-	cd target/parts && for archive in $^; do ar x ../../$$archive; done
-	ar rcs $@ target/parts/*.o
+	cd target/parts && for archive in $(filter %.a,$^); do ar x ../../$$archive; done
+	ar rcs $@ target/parts/*.o $(PARTS)
 
 target/tools/%.o: tools/%.c tools/tool.h include/tealsettle.h
 	@mkdir -p target/tools

@@ -33,10 +33,13 @@ WORDS = re.compile(r'(^/\* words: .*?\*/\n)(.*?)(^/\* end of words \*/$)', re.M 
 WORDS_START = '''\
 /* The words of a refusal or a stop: what `number` of any answer means, in a few words. Never null: 0 and numbers that
  * are none have words too. */
-static inline const char *tealsettle_refusal_words(uint32_t number)
+TEALSETTLE_MUST_USE static inline const char *tealsettle_refusal_words(uint32_t number)
 {
     switch (number) {
 '''
+
+# What is no refusal of the library's calls, but an answer of the loop above them, which is plain C.
+ABANDONED = ('case TEALSETTLE_ABANDONED', "the flash's driver failed or has no function for the order, and the run was abandoned")
 
 # A bare number: in a struct or a comparison of the code, or behind the name of a refused answer in a definition.
 BARE = re.compile(r'\bnumber: (?!0\b)\d+|\bnumber [!=]= (?!0\b)\d+|Refused [1-9]\d*')
@@ -97,7 +100,7 @@ def words_text(names):
     told = meanings()
     cases = (case(f'case {c_name(name, number)}', told.get(name, '')) for name, number in names)
     none, unknown = case('case 0', 'neither refused nor stopped'), case('default', 'no refusal or stop has this number')
-    return WORDS_START + none + ''.join(cases) + unknown + '    }\n}\n'
+    return WORDS_START + none + ''.join(cases) + case(*ABANDONED) + unknown + '    }\n}\n'
 
 
 PARTS = ((ENUM, enum_text), (WORDS, words_text))

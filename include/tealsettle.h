@@ -1,14 +1,21 @@
-/* Tealsettle for a printer's C host. Link libtealsettle.a, which `make` proves and makes (target/libtealsettle.a)
- * and `make install` installs.
+/* Tealsettle for a printer's C host. Link libtealsettle.a, which `make` makes (target/libtealsettle.a) and `make install`
+ * installs. A host that has the chip in a flash of its own needs few of the functions:
  *
- * Every function takes numbers and byte slices (a pointer, then a length) and returns a plain struct.
- * None asks anything of its numbers and bytes: every input gets an answer or a numbered refusal. All are proved
- * but tealsettle_refusal_words, which is plain C: it returns a string.
+ *     tealsettle_mcs_read   an image file in MCS text to the image's bytes
+ *     tealsettle_update     a whole update, over the host's own functions to erase, program and read
+ *     tealsettle_boot       what the printer then loads: ask tealsettle_loads of the answer whether it loads at all
  *
- * Memory stays the caller's: no function keeps a pointer, allocates, prints or stops the program. A `const`
- * slice is only read. A refusal leaves every lent byte as it was: its number and place are in the struct
- * that is returned. A pointer is never null, also where its length is 0, and two slices of one call do not
- * overlap. Lengths are below 2^63.
+ * Whether a chip loads is not `number`: a chip that is stuck is an answer, with number 0 and `stuck` 1. tealsettle_loads
+ * says it.
+ *
+ * Every function takes numbers and byte slices (a pointer, then a length) and returns a plain struct. None asks anything of
+ * its numbers and bytes: every input gets an answer or a numbered refusal. All are proved, but for the little that is plain
+ * C: the inline functions below, which only hand on what they are given, tealsettle_version, and tealsettle_update, which is
+ * a loop over the proved calls (library/update.c).
+ *
+ * Memory stays the caller's: no function keeps a pointer, allocates, prints or stops the program. A `const` slice is only
+ * read. A refusal leaves every lent byte as it was: its number and place are in the struct that is returned. A pointer may be
+ * null where its length is 0, and nowhere else. Two slices of one call do not overlap. Lengths are below 2^63.
  *
  * In each struct `number` is 0, or the number of a refusal; that of a reply also holds the number of a stop, 10
  * to 12, which is no refusal (`stopped` is 1). `place` is the place of that refusal or stop; of a chip that is
@@ -28,6 +35,11 @@
 #ifndef TEALSETTLE_H
 #define TEALSETTLE_H
 
+/* The library is compiled for one kind of machine: elsewhere it could not be linked, or its structs would be others. */
+#if !defined(__x86_64__) || defined(__ILP32__) || defined(_WIN32) || defined(__CYGWIN__)
+#error "libtealsettle.a is for 64-bit little-endian x86-64 hosts with the System V calling convention: see README.md"
+#endif
+
 #include <stddef.h>
 #include <stdint.h>
 
@@ -35,7 +47,20 @@
 extern "C" {
 #endif
 
-#define TEALSETTLE_VERSION "0.12.0"
+/* The version of this header: as text, and as a number, its parts times 10,000, 100 and 1. */
+#define TEALSETTLE_VERSION "0.13.0"
+#define TEALSETTLE_VERSION_NUMBER 1300u
+
+/* An answer that nobody looks at is a mistake: a refusal would go unnoticed. */
+#if defined(__GNUC__)
+#define TEALSETTLE_MUST_USE __attribute__((warn_unused_result))
+#else
+#define TEALSETTLE_MUST_USE
+#endif
+
+/* The version of the library that is linked, as TEALSETTLE_VERSION_NUMBER. */
+TEALSETTLE_MUST_USE
+uint32_t tealsettle_version(void);
 
 /* The kind of chip that the FPGA reads over SPI. */
 #define TEALSETTLE_SPI 0u
@@ -52,6 +77,9 @@ extern "C" {
 /* The bytes of an erase, and the most of a program or a look. */
 #define TEALSETTLE_SEGMENT 4096u
 #define TEALSETTLE_PAGE 256u
+
+/* The number that tealsettle_update gives a run that it abandoned: the flash's driver failed, or lacks a function. */
+#define TEALSETTLE_ABANDONED 100u
 
 /* refusals: the numbers of refusals and stops, by name; written by docs/refusals.py */
 enum {
@@ -80,6 +108,7 @@ enum {
 /* words: from docs/REFUSALS.md, written by docs/refusals.py */
 /* The words of a refusal or a stop: what `number` of any answer means, in a few words. Never null: 0 and numbers that
  * are none have words too. */
+TEALSETTLE_MUST_USE
 static inline const char *tealsettle_refusal_words(uint32_t number)
 {
     switch (number) {
@@ -123,6 +152,8 @@ static inline const char *tealsettle_refusal_words(uint32_t number)
         return "the end record is missing, or something follows it";
     case TEALSETTLE_REFUSED_NO_ROOM:
         return "what is to be written does not fit into the memory that is given for it";
+    case TEALSETTLE_ABANDONED:
+        return "the flash's driver failed or has no function for the order, and the run was abandoned";
     default:
         return "no refusal or stop has this number";
     }
@@ -148,6 +179,7 @@ typedef struct {
 /* Tells a file's form by its bytes. A file that begins with the 13 bytes of BIT files is one; any other is text if it has
  * no byte above 7F. A sync word has, so no image that loads anything is taken for text; and every text that
  * tealsettle_mcs_read reads is told as text. */
+TEALSETTLE_MUST_USE
 TealsettleForm tealsettle_file_form(const uint8_t *file, size_t file_length);
 
 /* What reading MCS text came to. */
@@ -160,13 +192,14 @@ typedef struct {
 /* Reads MCS text (Intel hexadecimal records of types 00, 01 and 04) into `out`. Bytes of `out` after the
  * image stay as they were. An image has fewer bytes than half its text, so a buffer of half the
  * text's length is always large enough. */
+TEALSETTLE_MUST_USE
 TealsettleRead tealsettle_mcs_read(const uint8_t *text, size_t text_length, uint8_t *out, size_t out_length);
 
 /* ---- What loads ---- */
 
 /* What a chip loads. */
 typedef struct {
-    uint32_t number; /* 0, also for a chip that is stuck; or 1 */
+    uint32_t number; /* 0, also for a chip that is STUCK: whether it loads is what tealsettle_loads says; or 1 */
     size_t place;    /* of a chip that is stuck: the faulty word, or the chip's length where bytes ran out */
     uint32_t stuck;  /* 1: the chip loads nothing, and the fields below are 0 */
     uint32_t jumped; /* 0: without a jump (the golden image); 1: after one (an update image) */
@@ -176,7 +209,15 @@ typedef struct {
 } TealsettleBoot;
 
 /* What the FPGA loads from a chip of these bytes. */
+TEALSETTLE_MUST_USE
 TealsettleBoot tealsettle_boot(uint32_t kind, const uint8_t *chip, size_t chip_length);
+
+/* Whether the chip loads an image: 1; or 0, where it is stuck or was refused. */
+TEALSETTLE_MUST_USE
+static inline int tealsettle_loads(TealsettleBoot boot)
+{
+    return boot.number == 0 && !boot.stuck;
+}
 
 /* One write to a configuration register. */
 typedef struct {
@@ -189,6 +230,7 @@ typedef struct {
 } TealsettleWrite;
 
 /* The write of index i, counted from 0, of what tealsettle_boot counts. A chip that is stuck has none. */
+TEALSETTLE_MUST_USE
 TealsettleWrite tealsettle_write(uint32_t kind, const uint8_t *chip, size_t chip_length, size_t i);
 
 /* What an image loads by itself. */
@@ -201,13 +243,14 @@ typedef struct {
 } TealsettleImage;
 
 /* Whether an image is one that a chip can be given: it reads by itself to its end and does not jump. */
+TEALSETTLE_MUST_USE
 TealsettleImage tealsettle_image_check(uint32_t kind, const uint8_t *image, size_t image_length);
 
 /* The writes one after the other, in one pass:
  *
  *     TealsettleListing list = tealsettle_writes(TEALSETTLE_SPI, chip, chip_length);
- *     TealsettleStep step = tealsettle_next_write(TEALSETTLE_SPI, TEALSETTLE_CURSOR(list.cursor), chip, chip_length);
- *     for (; step.found; step = tealsettle_next_write(TEALSETTLE_SPI, TEALSETTLE_CURSOR(step.cursor), chip, chip_length))
+ *     TealsettleStep step = tealsettle_list_next(TEALSETTLE_SPI, list.cursor, chip, chip_length);
+ *     for (; step.found; step = tealsettle_list_next(TEALSETTLE_SPI, step.cursor, chip, chip_length))
  *         ... step.register_number, step.word, step.word_place ...
  *
  * The k-th step says what tealsettle_write answers for k, and after the last write none is found. A list that is
@@ -222,7 +265,8 @@ typedef struct {
     size_t remaining;         /* how many writes are still to come */
 } TealsettleCursor;
 
-/* A cursor as the call takes it: its numbers, in their order. */
+/* A cursor as tealsettle_next_write takes it: its numbers, in their order. Give it a variable, since it is written out four
+ * times; or call tealsettle_list_next, which takes the cursor itself. */
 #define TEALSETTLE_CURSOR(c) (c).at, (c).register_number, (c).left, (c).remaining
 
 /* Where a list of writes begins. */
@@ -233,9 +277,11 @@ typedef struct {
 } TealsettleListing;
 
 /* A cursor before the first write of what tealsettle_boot counts. A chip that is stuck has none. */
+TEALSETTLE_MUST_USE
 TealsettleListing tealsettle_writes(uint32_t kind, const uint8_t *chip, size_t chip_length);
 
 /* A cursor before the first write of an image by itself, as tealsettle_image_check counts them. */
+TEALSETTLE_MUST_USE
 TealsettleListing tealsettle_image_writes(uint32_t kind, const uint8_t *image, size_t image_length);
 
 /* The next write of a list. */
@@ -250,8 +296,17 @@ typedef struct {
 } TealsettleStep;
 
 /* A cursor's next write, and the cursor after it. `bytes` are the chip or the image that it was opened on. */
+TEALSETTLE_MUST_USE
 TealsettleStep tealsettle_next_write(uint32_t kind, size_t at, uint32_t register_number, size_t left, size_t remaining,
                                      const uint8_t *bytes, size_t bytes_length);
+
+/* The same, of a cursor as it is. */
+TEALSETTLE_MUST_USE
+static inline TealsettleStep tealsettle_list_next(uint32_t kind, TealsettleCursor cursor, const uint8_t *bytes,
+                                                  size_t bytes_length)
+{
+    return tealsettle_next_write(kind, TEALSETTLE_CURSOR(cursor), bytes, bytes_length);
+}
 
 /* What writing a report came to. */
 typedef struct {
@@ -265,6 +320,7 @@ typedef struct {
 
 /* The boot report of a chip, as `bootreport` prints it: what loads, a line for each write, and the end; or where the
  * chip is stuck. Lines end in LF, and no byte 0 follows. Bytes of `out` after the report stay as they were. */
+TEALSETTLE_MUST_USE
 TealsettleReport tealsettle_report(uint32_t kind, const uint8_t *chip, size_t chip_length, uint8_t *out,
                                    size_t out_length);
 
@@ -278,8 +334,20 @@ typedef struct {
 
 /* Builds a chip with a golden image: `length` bytes at the front of `out`, whose other bytes stay as they
  * were. It loads the golden image, whole, without a jump. */
+TEALSETTLE_MUST_USE
 TealsettleBuild tealsettle_build(uint32_t kind, size_t length, size_t update, size_t area, const uint8_t *golden,
                                  size_t golden_length, uint8_t *out, size_t out_length);
+
+/* Whether a chip's switch is ON. */
+typedef struct {
+    uint32_t number; /* 0, or 1 */
+    size_t place;    /* 0 */
+    uint32_t on;     /* 1: the switch word is ON, and the FPGA goes on to the update area; 0: it is any other word, OFF */
+} TealsettleSwitch;
+
+/* The switch of a chip: the word at 4,092, by which the FPGA chooses. What then loads is what tealsettle_boot says. */
+TEALSETTLE_MUST_USE
+TealsettleSwitch tealsettle_switch(uint32_t kind, const uint8_t *chip, size_t chip_length);
 
 /* Where a chip says that its update area begins. */
 typedef struct {
@@ -291,22 +359,29 @@ typedef struct {
 
 /* The update place that segment 1 of a chip names: on a chip that tealsettle_build made it is the one that it was built
  * with, after every run and every cut. */
+TEALSETTLE_MUST_USE
 TealsettlePlace tealsettle_update_place(uint32_t kind, const uint8_t *chip, size_t chip_length);
 
 /* ---- A run: updating a chip ----
  *
+ * tealsettle_update, at the end of this part, does all of it over a host's own functions for its flash. What it does is this
+ * loop, which a host that needs more may write itself:
+ *
  *     TealsettleStart start = tealsettle_start(TEALSETTLE_SPI, length, update, area, image, image_length);
- *     TealsettleReply reply = {.number = start.number, .place = start.place, .state = start.state};
- *     while (reply.number == 0 && !tealsettle_finished(TEALSETTLE_SPI, TEALSETTLE_STATE(reply.state)).ended) {
- *         TealsettleOrder order = tealsettle_order(TEALSETTLE_SPI, TEALSETTLE_STATE(reply.state), image, image_length);
+ *     TealsettleState state = start.state;
+ *     uint32_t number = start.number;
+ *     while (number == 0 && !tealsettle_run_finished(TEALSETTLE_SPI, state).ended) {
+ *         TealsettleOrder order = tealsettle_run_order(TEALSETTLE_SPI, state, image, image_length);
  *         ... carry it out, once: erase, program, or read into `seen` ...
- *         reply = tealsettle_reply(TEALSETTLE_SPI, TEALSETTLE_STATE(reply.state), image, image_length,
- *                                  reply_kind, seen, seen_length);
+ *         TealsettleReply reply = order.operation == TEALSETTLE_LOOK
+ *             ? tealsettle_run_read(TEALSETTLE_SPI, state, image, image_length, seen, seen_length)
+ *             : tealsettle_run_done(TEALSETTLE_SPI, state, image, image_length);
+ *         number = reply.number;
+ *         state = reply.state;
  *     }
  *
  * It ends with number 0: the image is written, read back and switched on, and the printer loads it, also where the
  * chip said done to an order that it did not carry out; or it ends with the number of a refusal or a stop.
- * examples/update.c is a whole host.
  *
  * The state is all that a run is, and the caller keeps it, in memory only. After a power cut it is lost, the printer
  * loads a whole image all the same, and an update begins again with a start, which may come at any time.
@@ -319,7 +394,15 @@ TealsettlePlace tealsettle_update_place(uint32_t kind, const uint8_t *chip, size
  *     nothing, and the order is not carried out again;
  *   - what a look reads is what stands on the chip, and nobody else writes the chip.
  * And of the chip: bytes change only under an erase or program and within its span, and in segment 0 each bit ends
- * old or as ordered. In the update area a failed or cut order may leave anything. */
+ * old or as ordered. In the update area a failed or cut order may leave anything.
+ *
+ * Where the driver itself fails (a time-out, write protection, a bus error, a short read), the run is abandoned: no reply
+ * is given, the state is dropped, and the order is NOT tried again. The update then begins anew, with a start. That is safe
+ * at every order: an abandoned run is nothing else than one whose power was cut there. Whatever the failed order has left
+ * within its span, the guarantee covers it, and the next run first switches the update off, then writes all of it again. A
+ * second try is outside of what is proved, since each order is carried out once, and nothing is gained by it. Nor may a
+ * failed read be answered with bytes that were not read: the look would then agree with what nobody has seen. A flash that
+ * is still busy with the order that timed out must be idle again, or be switched off and on, before the next start. */
 
 /* Where a run is. */
 typedef struct {
@@ -332,7 +415,8 @@ typedef struct {
     uint32_t outcome;    /* 0; in phase 7 after a stop its number, 10 to 12 */
 } TealsettleState;
 
-/* A state as the calls take it: its numbers, in their order. */
+/* A state as the calls on numbers take it, in their order. Give it a variable, since it is written out seven times. The
+ * functions tealsettle_run_... take the state itself, so that no two of its numbers can be exchanged: prefer them. */
 #define TEALSETTLE_STATE(s) \
     (s).length, (s).update, (s).area, (s).image_length, (s).phase, (s).index, (s).outcome
 
@@ -344,6 +428,7 @@ typedef struct {
 } TealsettleStart;
 
 /* Starts a run with an image. It writes nothing: the chip is not touched before the first order. */
+TEALSETTLE_MUST_USE
 TealsettleStart tealsettle_start(uint32_t kind, size_t length, size_t update, size_t area, const uint8_t *image,
                                  size_t image_length);
 
@@ -355,7 +440,22 @@ typedef struct {
 } TealsettleTotal;
 
 /* How many orders an uncut run has, with an image of so many bytes. */
+TEALSETTLE_MUST_USE
 TealsettleTotal tealsettle_total(uint32_t kind, size_t length, size_t update, size_t area, size_t image_length);
+
+/* How far a run is. */
+typedef struct {
+    uint32_t number; /* 0, or 7 or 8 */
+    size_t place;    /* 0 */
+    size_t order;    /* the number of the state's order in its run, counted from 1 */
+    size_t orders;   /* how many there are in all */
+} TealsettleProgress;
+
+/* The number of the order that a state asks for, as in "order 18 of 88". A run that has ended asks for none: 8. No image is
+ * lent. */
+TEALSETTLE_MUST_USE
+TealsettleProgress tealsettle_progress(uint32_t kind, size_t length, size_t update, size_t area, size_t image_length,
+                                       uint32_t phase, size_t index, uint32_t outcome);
 
 /* What is to be done with the chip: erase the segment of `length` bytes from `address` on, program as many
  * with the front of `bytes`, or read as many. A program stays inside one page of 256 bytes. */
@@ -370,6 +470,7 @@ typedef struct {
 
 /* The order that a state asks for. `state_image_length` is the state's own, and `image_length` that of the
  * image lent: the state fits only if they are equal. */
+TEALSETTLE_MUST_USE
 TealsettleOrder tealsettle_order(uint32_t kind, size_t length, size_t update, size_t area, size_t state_image_length,
                                  uint32_t phase, size_t index, uint32_t outcome, const uint8_t *image,
                                  size_t image_length);
@@ -382,8 +483,9 @@ typedef struct {
     TealsettleState state; /* the next one; after a stop phase 7; after a refusal the one that was given */
 } TealsettleReply;
 
-/* The reply to the order of a state: `reply_kind` is TEALSETTLE_DONE, with a length of 0 (and a pointer that is not
- * null), after an erase or program, and TEALSETTLE_READ, with the bytes that the chip read, after a look. */
+/* The reply to the order of a state: `reply_kind` is TEALSETTLE_DONE, with a length of 0, after an erase or
+ * program, and TEALSETTLE_READ, with the bytes that the chip read, after a look. */
+TEALSETTLE_MUST_USE
 TealsettleReply tealsettle_reply(uint32_t kind, size_t length, size_t update, size_t area, size_t state_image_length,
                                  uint32_t phase, size_t index, uint32_t outcome, const uint8_t *image,
                                  size_t image_length, uint32_t reply_kind, const uint8_t *bytes, size_t bytes_length);
@@ -397,8 +499,90 @@ typedef struct {
 } TealsettleFinished;
 
 /* Whether a run has ended, and how. No image is lent. */
+TEALSETTLE_MUST_USE
 TealsettleFinished tealsettle_finished(uint32_t kind, size_t length, size_t update, size_t area, size_t image_length,
                                        uint32_t phase, size_t index, uint32_t outcome);
+
+/* The same four calls, and the reply in two, on a state as it is. */
+
+TEALSETTLE_MUST_USE
+static inline TealsettleOrder tealsettle_run_order(uint32_t kind, TealsettleState state, const uint8_t *image,
+                                                   size_t image_length)
+{
+    return tealsettle_order(kind, TEALSETTLE_STATE(state), image, image_length);
+}
+
+/* The order was an erase or a program, and is done. */
+TEALSETTLE_MUST_USE
+static inline TealsettleReply tealsettle_run_done(uint32_t kind, TealsettleState state, const uint8_t *image,
+                                                  size_t image_length)
+{
+    return tealsettle_reply(kind, TEALSETTLE_STATE(state), image, image_length, TEALSETTLE_DONE, NULL, 0);
+}
+
+/* The order was a look, and these are the bytes that the chip read. */
+TEALSETTLE_MUST_USE
+static inline TealsettleReply tealsettle_run_read(uint32_t kind, TealsettleState state, const uint8_t *image,
+                                                  size_t image_length, const uint8_t *bytes, size_t bytes_length)
+{
+    return tealsettle_reply(kind, TEALSETTLE_STATE(state), image, image_length, TEALSETTLE_READ, bytes, bytes_length);
+}
+
+TEALSETTLE_MUST_USE
+static inline TealsettleFinished tealsettle_run_finished(uint32_t kind, TealsettleState state)
+{
+    return tealsettle_finished(kind, TEALSETTLE_STATE(state));
+}
+
+TEALSETTLE_MUST_USE
+static inline TealsettleProgress tealsettle_run_progress(uint32_t kind, TealsettleState state)
+{
+    return tealsettle_progress(kind, TEALSETTLE_STATE(state));
+}
+
+/* ---- A whole update over a flash's driver ---- */
+
+/* The order that is carried out next. */
+typedef struct {
+    size_t number;      /* in its run, counted from 1, */
+    size_t orders;      /* of so many */
+    uint32_t phase;     /* 0 to 6: erase segment 0, look at it, erase the update area, program the image, look at the area,
+                         * program the switch word, look at it */
+    uint32_t operation; /* TEALSETTLE_ERASE, TEALSETTLE_PROGRAM or TEALSETTLE_LOOK */
+    size_t address;     /* on the chip */
+    size_t length;
+} TealsettleAhead;
+
+/* A flash: the driver's functions, and the pointer that each is given. They return when the flash is no longer busy, and say
+ * how it went; any other number than the one for success abandons the run, and is handed on in TealsettleUpdate. */
+typedef struct {
+    void *context;
+    /* Sets `length` bytes to FF. 0: done. */
+    int (*erase)(void *context, size_t address, size_t length);
+    /* Clears those bits that are 0 in `bytes`. 0: done. */
+    int (*program)(void *context, size_t address, const uint8_t *bytes, size_t length);
+    /* Reads into `bytes`. `length` (at most 256): so many were read. Fewer is a short read, and abandons the run. */
+    int (*read)(void *context, size_t address, uint8_t *bytes, size_t length);
+    /* Is told of each order before it is carried out. 0: go on; else the run is abandoned there. May be null. */
+    int (*progress)(void *context, const TealsettleAhead *ahead);
+} TealsettleFlash;
+
+/* What an update came to. */
+typedef struct {
+    uint32_t number; /* 0: the image is written, read back and switched on, and the chip loads it; or 1 to 6: refused, and the
+                      * flash was not touched; or 10 to 12: stopped; or TEALSETTLE_ABANDONED */
+    size_t place;    /* of the refusal or stop; of a run that was abandoned, the address of its order */
+    int driver;      /* of a run that was abandoned: what the driver's function returned; 0 where there is no such function */
+    size_t order;    /* the number of the order that was the last, counted from 1; 0 where none was begun */
+    size_t orders;   /* how many the run has; 0 where none was begun */
+} TealsettleUpdate;
+
+/* Updates a chip: a run from its start to its end. After a stop, and after a run that was abandoned, call it again, with the
+ * same image or another. In between the chip loads, whole, its golden image or the update of the last run that came to order
+ * the switch on. */
+TEALSETTLE_MUST_USE
+TealsettleUpdate tealsettle_update(uint32_t kind, size_t length, size_t update, size_t area, const uint8_t *image,
+                                   size_t image_length, const TealsettleFlash *flash);
 
 /* ---- The bench: a run on a chip's bytes ---- */
 
@@ -412,6 +596,7 @@ typedef struct {
 /* A run on the bytes of a chip, whose power is cut in the order after the first `k`. Those are obeyed in full;
  * if the next is an erase or program, its span then holds the first damage bytes, and a look changes
  * nothing. With `k` at or above the total the run ends. F is the chip's length. */
+TEALSETTLE_MUST_USE
 TealsettleBench tealsettle_cut_run(uint32_t kind, uint8_t *chip, size_t chip_length, size_t update, size_t area,
                                    const uint8_t *image, size_t image_length, size_t k, const uint8_t *damage,
                                    size_t damage_length);

@@ -123,6 +123,9 @@ uint32_t reference_total(size_t length, size_t update, size_t area, size_t image
 uint32_t reference_order(const ReferenceState *state, const uint8_t *image, size_t image_length, ReferenceOrder *order);
 uint32_t reference_finished(const ReferenceState *state, int *ended, uint32_t *outcome);
 
+/* The number of the state's order in its run, counted from 1, and how many there are; both 0 for a refusal. */
+uint32_t reference_progress(const ReferenceState *state, size_t *order, size_t *orders);
+
 /* The state is changed in place. */
 uint32_t reference_reply(ReferenceState *state, const uint8_t *image, size_t image_length, uint32_t reply_kind,
                          const uint8_t *bytes, size_t bytes_length, size_t *place);

@@ -179,6 +179,21 @@ uint32_t reference_finished(const ReferenceState *state, int *ended, uint32_t *o
     return 0;
 }
 
+uint32_t reference_progress(const ReferenceState *state, size_t *order, size_t *orders)
+{
+    ReferenceState before = {state->length, state->update, state->area, state->image_length, 0, 0, 0};
+    *order = *orders = 0;
+    if (!state_fits(state, state->image_length))
+        return TEALSETTLE_REFUSED_BAD_STATE;
+    if (state->phase == REFERENCE_ENDED)
+        return TEALSETTLE_REFUSED_RUN_ENDED;
+    for (; before.phase < state->phase; before.phase++)
+        *order += reference_orders_in_phase(&before);
+    *order += state->index + 1;
+    *orders = reference_orders_in_all(state);
+    return 0;
+}
+
 uint32_t reference_start(ReferenceState *state, size_t length, size_t update, size_t area, const uint8_t *image,
                          size_t image_length, size_t *place)
 {

@@ -1,7 +1,8 @@
 /* A flash that fails, for the tests of the example and of the tool: linked over the calls by which they reach their chip. It
- * takes no time, raises SIGNAL in the call CUT on the chip, after PART bytes if that is a write, and does nothing in the
- * first write at the address DEAF. With LOSE=1, 2 or 3 the computer fails there too: of the writes that it has not been asked
- * to put on its disk yet, it loses every second, the others, or all. */
+ * takes no time, raises SIGNAL in the call CUT on the chip, after PART bytes if that is a write, gives an error in the call
+ * BROKEN, and does nothing in the first write at the address DEAF. With LOSE=1, 2 or 3 the computer fails at a cut too: of the
+ * writes that it has not been asked to put on its disk yet, it loses every second, the others, or all. */
+#include <errno.h>
 #include <signal.h>
 #include <stdint.h>
 #include <stdlib.h>
@@ -60,11 +61,18 @@ int __wrap_fdatasync(int file)
     return __real_fdatasync(file);
 }
 
+static ssize_t give_error(void)
+{
+    errno = EIO;
+    return -1;
+}
+
 ssize_t __wrap_pread(int file, void *bytes, size_t length, off_t at)
 {
-    if (++calls == number("CUT"))
+    calls++;
+    if (calls == number("CUT"))
         fail(file);
-    return __real_pread(file, bytes, length, at);
+    return calls == number("BROKEN") ? give_error() : __real_pread(file, bytes, length, at);
 }
 
 ssize_t __wrap_pwrite(int file, const void *bytes, size_t length, off_t at)
@@ -73,7 +81,8 @@ ssize_t __wrap_pwrite(int file, const void *bytes, size_t length, off_t at)
     if (at == number("DEAF") && deaf++ == 0)
         return (ssize_t)length;
     keep_before(file, length, at);
-    if (++calls == number("CUT") && __real_pwrite(file, bytes, part < length ? part : length, at) >= 0)
+    calls++;
+    if (calls == number("CUT") && __real_pwrite(file, bytes, part < length ? part : length, at) >= 0)
         fail(file);
-    return __real_pwrite(file, bytes, length, at);
+    return calls == number("BROKEN") ? give_error() : __real_pwrite(file, bytes, length, at);
 }

@@ -106,6 +106,16 @@ static inline int finished_differs(uint32_t kind, ReferenceState s, TealsettleFi
            differs("finished: ended", r.ended, (size_t)ended) || differs("finished: outcome", r.outcome, outcome);
 }
 
+static inline int progress_differs(uint32_t kind, ReferenceState s, TealsettleProgress r)
+{
+    size_t order = 0, orders = 0;
+    uint32_t number = TEALSETTLE_REFUSED_BAD_STATE;
+    if (kind == TEALSETTLE_SPI)
+        number = reference_progress(&s, &order, &orders);
+    return differs("progress: number", r.number, number) || differs("progress: place", r.place, 0) ||
+           differs("progress: order", r.order, order) || differs("progress: orders", r.orders, orders);
+}
+
 static inline int try_often(long count, int (*try)(void))
 {
     for (long i = 0; i < count; i++)

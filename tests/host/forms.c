@@ -1,13 +1,13 @@
-/* tealsettle_file_form and tealsettle_update_place beside the reference: random BIT files, good and damaged, texts and plain
+/* tealsettle_file_form, tealsettle_update_place and tealsettle_switch beside the reference: random BIT files, good and damaged, texts and plain
  * bytes; and chips whose segment 1 names a place, or nearly does. Prints how many were tried. */
 #include "compare.h"
 #include "make.h"
 
-enum { FILES = 1000000, PLACES = 300000, LONGEST = 9000 };
+enum { FILES = 1000000, CHIPS = 300000, LONGEST = 9000 };
 
 static uint8_t file[LONGEST];
 static size_t file_length;
-static long forms[4], found_places;
+static long forms[4], found_places, switched_on;
 
 /* Files. */
 
@@ -91,7 +91,18 @@ static int place_differs(uint32_t kind, const uint8_t *bytes, size_t length)
            differs("place: found", r.found, (size_t)found) || differs("place: update", r.update, update);
 }
 
-static int try_place(void)
+/* ON is the one word; where a bit or more of it is another, the switch is OFF. */
+static int switch_differs(uint32_t kind, const uint8_t *bytes, size_t length)
+{
+    TealsettleSwitch r = tealsettle_switch(kind, bytes, length);
+    int allowed = kind == TEALSETTLE_SPI && reference_length_allowed(length);
+    int on = allowed && memcmp(bytes + 4092, ON, sizeof ON) == 0;
+    switched_on += on;
+    return differs("switch: number", r.number, allowed ? 0 : (uint32_t)TEALSETTLE_REFUSED_BAD_CHIP_LENGTH) ||
+           differs("switch: place", r.place, 0) || differs("switch: on", r.on, (size_t)on);
+}
+
+static int try_chip(void)
 {
     static uint8_t bytes[20480];
     static const uint8_t words[20] = {0x30, 0x02, 0x00, 0x01, 0, 0, 0, 0, 0x30, 0x00, 0x80, 0x01, 0, 0, 0, 0x0F, 0x20};
@@ -100,7 +111,11 @@ static int try_place(void)
     fill_random(bytes + 4100, 4);
     if (one_in(3))
         bytes[4096 + below(20)] ^= (uint8_t)(1u << below(8));
-    return place_differs(some_kind(), bytes, length);
+    memcpy(bytes + 4092, ON, sizeof ON);
+    if (one_in(2))
+        bytes[4092 + below(4)] ^= (uint8_t)(1u << below(8));
+    uint32_t kind = some_kind();
+    return place_differs(kind, bytes, length) || switch_differs(kind, bytes, length);
 }
 
 int main(void)
@@ -110,10 +125,11 @@ int main(void)
         if (form_differs())
             return 1;
     }
-    for (; tried < FILES + PLACES; tried++)
-        if (try_place())
+    for (; tried < FILES + CHIPS; tried++)
+        if (try_chip())
             return 1;
-    printf("host test: %d files and %d chips tried, none differs (text %ld, BIT %ld, binary %ld, refused %ld; places found %ld)\n",
-           FILES, PLACES, forms[TEALSETTLE_TEXT], forms[TEALSETTLE_BIT], forms[TEALSETTLE_BINARY], forms[0], found_places);
+    printf("host test: %d files and %d chips tried, none differs (text %ld, BIT %ld, binary %ld, refused %ld; places found %ld, switches ON %ld)\n",
+           FILES, CHIPS, forms[TEALSETTLE_TEXT], forms[TEALSETTLE_BIT], forms[TEALSETTLE_BINARY], forms[0], found_places,
+           switched_on);
     return 0;
 }

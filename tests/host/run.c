@@ -1,6 +1,6 @@
-/* A run's calls beside the reference: tealsettle_order, tealsettle_reply, tealsettle_finished,
- * tealsettle_total and tealsettle_start, with states that fit and states that do not, true replies and
- * others. Every field is compared. Prints how many were tried. */
+/* A run's calls beside the reference: tealsettle_order, tealsettle_reply, tealsettle_finished, tealsettle_progress,
+ * tealsettle_total and tealsettle_start, with states that fit and states that do not, true replies and others; half of them
+ * through the functions that take the state itself. Every field is compared. Prints how many were tried. */
 #include "compare.h"
 #include "make.h"
 
@@ -95,6 +95,8 @@ static void make_reply(Reply *r, ReferenceState s, size_t lent)
         r->bytes[r->length > 0 ? below(r->length) : 0] ^= (uint8_t)(1u << below(8));
 }
 
+/* The calls on numbers. */
+
 static int try_reply(uint32_t kind, ReferenceState s, size_t lent)
 {
     Reply r;
@@ -102,6 +104,36 @@ static int try_reply(uint32_t kind, ReferenceState s, size_t lent)
     ExpectedReply e = expected_reply(kind, s, image, lent, r.kind, r.bytes, r.length);
     answers[e.number]++;
     return reply_differs(tealsettle_reply(kind, TEALSETTLE_STATE(s), image, lent, r.kind, r.bytes, r.length), e);
+}
+
+static int try_numbers(uint32_t kind, ReferenceState s, size_t lent)
+{
+    TealsettleOrder order = tealsettle_order(kind, TEALSETTLE_STATE(s), image, lent);
+    return order_differs(kind, s, image, lent, &order) || try_reply(kind, s, lent) ||
+           finished_differs(kind, s, tealsettle_finished(kind, TEALSETTLE_STATE(s))) ||
+           progress_differs(kind, s, tealsettle_progress(kind, TEALSETTLE_STATE(s)));
+}
+
+/* The same on the state itself. */
+
+static int try_state_reply(uint32_t kind, ReferenceState s, size_t lent)
+{
+    Reply r;
+    TealsettleState state = {TEALSETTLE_STATE(s)};
+    make_reply(&r, s, lent);
+    ExpectedReply done = expected_reply(kind, s, image, lent, TEALSETTLE_DONE, NULL, 0);
+    ExpectedReply read = expected_reply(kind, s, image, lent, TEALSETTLE_READ, r.bytes, r.length);
+    return reply_differs(tealsettle_run_done(kind, state, image, lent), done) ||
+           reply_differs(tealsettle_run_read(kind, state, image, lent, r.bytes, r.length), read);
+}
+
+static int try_struct(uint32_t kind, ReferenceState s, size_t lent)
+{
+    TealsettleState state = {TEALSETTLE_STATE(s)};
+    TealsettleOrder order = tealsettle_run_order(kind, state, image, lent);
+    return order_differs(kind, s, image, lent, &order) || try_state_reply(kind, s, lent) ||
+           finished_differs(kind, s, tealsettle_run_finished(kind, state)) ||
+           progress_differs(kind, s, tealsettle_run_progress(kind, state));
 }
 
 static int try_state(void)
@@ -113,11 +145,9 @@ static int try_state(void)
     size_t lent = s.image_length <= LARGEST ? s.image_length : below(5000);
     if (one_in(20))
         lent = below(5000);
-    TealsettleOrder order = tealsettle_order(kind, TEALSETTLE_STATE(s), image, lent);
     tried++;
-    return order_differs(kind, s, image, lent, &order) || try_reply(kind, s, lent) ||
-           finished_differs(kind, s, tealsettle_finished(kind, TEALSETTLE_STATE(s))) ||
-           total_differs(kind, s, tealsettle_total(kind, s.length, s.update, s.area, s.image_length));
+    return total_differs(kind, s, tealsettle_total(kind, s.length, s.update, s.area, s.image_length)) ||
+           (one_in(2) ? try_numbers(kind, s, lent) : try_struct(kind, s, lent));
 }
 
 static int try_start(void)
