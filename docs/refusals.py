@@ -33,7 +33,8 @@ WORDS = re.compile(r'(^/\* words: .*?\*/\n)(.*?)(^/\* end of words \*/$)', re.M 
 WORDS_START = '''\
 /* The words of a refusal or a stop: what `number` of any answer means, in a few words. Never null: 0 and numbers that
  * are none have words too. */
-TEALSETTLE_MUST_USE static inline const char *tealsettle_refusal_words(uint32_t number)
+TEALSETTLE_MUST_USE
+static inline const char *tealsettle_refusal_words(uint32_t number)
 {
     switch (number) {
 '''

@@ -1,13 +1,13 @@
 # What the tests of the example and of the tool share: images and chips, made here from the specification; what must load; what a
-# command says; runs that are stopped, held, or have odd standard files. A test that takes this in has `test` (its name), `work` (its
-# folder) and `chip` (the chip's file). One with runs also has `progress` (the file of what they say), `runner` (the words of a command
-# that runs an image on a chip, whose flash may fail), `note_run` (which sets `ordered` after a run), `booted` (a command that says what
-# the chip loads) and `answer` (what that is for each image).
+# command says; runs that are stopped, fail, are held, or have odd standard files. A test that takes this in has `test` (its name),
+# `work` (its folder) and `chip` (the chip's file). One with runs also has `progress` (the file of what they say), `runner` (the words
+# of a command that runs an image on a chip, whose flash may fail), `note_run` (which sets `ordered` after a run), `booted` (a command
+# that says what the chip loads), `answer` (what that is for each image) and `calls` (how many calls on its chip a run has, and one).
 
 status=0       # of the last command
 ordered=none   # the image of the last run that ordered the switch on
 switch=OFF     # the switch word after the last run
-kills=0 stops=0 refusals=0 outputs=0
+kills=0 stops=0 errors=0 refusals=0 outputs=0
 
 # What a run that ends well says.
 declare -A said=(
@@ -151,6 +151,26 @@ run_stopped() {
     verify "stopped $2"
     run_uncut short
     stops=$((stops + 1))
+}
+
+# From a chip with an update: this call on the chip gives an error. It is said, and nothing is tried again.
+run_broken() {
+    cp "$work/short.chip" "$chip"
+    ordered=short
+    BROKEN=$1 run_failing pages
+    verify "an error in call $1"
+    [ "$status" -eq 2 ] || fail "an error in call $1: $status"
+    grep -qE 'run it again|cannot be read' "$progress" || fail "not a word of the error in call $1: $(<"$progress")"
+    errors=$((errors + 1))
+}
+
+# In each of the calls of a run, of which there are one fewer than `calls`.
+break_each_call() {
+    local call
+    for ((call = 1; call < calls; call++)); do
+        run_broken "$call"
+    done
+    run_uncut short
 }
 
 # Calls a function with every choice of standard files: input closed; output closed, full or not for writing; error closed or full.

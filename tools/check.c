@@ -6,8 +6,7 @@ static void print_writes(const File *image)
 {
     TealsettleCursor cursor = tealsettle_image_writes(TEALSETTLE_SPI, image->bytes, image->length).cursor;
     for (;;) {
-        TealsettleStep step =
-            tealsettle_next_write(TEALSETTLE_SPI, TEALSETTLE_CURSOR(cursor), image->bytes, image->length);
+        TealsettleStep step = tealsettle_list_next(TEALSETTLE_SPI, cursor, image->bytes, image->length);
         if (!step.found)
             return;
         printf("WRITE %02X %08X %08zX\n", (unsigned)step.register_number, (unsigned)step.word, step.word_place);

@@ -36,7 +36,7 @@ int say_boot(FILE *to, const File *chip)
     TealsettleBoot boot = tealsettle_boot(TEALSETTLE_SPI, chip->bytes, chip->length);
     if (boot.number != 0)
         return refused(chip->name, boot.number, boot.place);
-    if (boot.stuck) {
+    if (!tealsettle_loads(boot)) {
         fprintf(to, "loads nothing: stuck at %zu\n", boot.place);
         return ANSWER_NO;
     }

@@ -42,64 +42,53 @@ File read_flash(const Flash *flash)
     return read_descriptor(flash->descriptor, flash->name, LONGEST_CHIP);
 }
 
-/* The file has failed in the middle of a run. */
-static _Noreturn void fail_in_run(const Flash *flash, const char *why)
+/* The file has failed in the middle of a run: why is said when the run has been abandoned. */
+static int failed(Flash *flash, const char *why)
 {
-    trouble(flash->name, joined(why, ": the run has not come to its end; run it again"));
+    flash->why = why;
+    return -1;
 }
 
-static void read_at(const Flash *flash, size_t address, uint8_t *bytes, size_t length)
+int flash_read(void *context, size_t address, uint8_t *bytes, size_t length)
 {
+    Flash *flash = context;
     for (size_t done = 0; done < length;) {
         ssize_t got = pread(flash->descriptor, bytes + done, length - done, (off_t)(address + done));
         if (got < 0 && errno != EINTR)
-            fail_in_run(flash, strerror(errno));
+            return failed(flash, strerror(errno));
         if (got == 0)
-            fail_in_run(flash, "has become shorter");
+            return failed(flash, "has become shorter");
         done += got > 0 ? (size_t)got : 0;
     }
+    return (int)length;
 }
 
-static void write_at(const Flash *flash, size_t address, const uint8_t *bytes, size_t length)
+static int write_at(Flash *flash, size_t address, const uint8_t *bytes, size_t length)
 {
     for (size_t done = 0; done < length;)
         if (!write_took(pwrite(flash->descriptor, bytes + done, length - done, (off_t)(address + done)), &done))
-            fail_in_run(flash, strerror(errno));
+            return failed(flash, strerror(errno));
+    return 0;
 }
 
-static void erase(const Flash *flash, size_t address, size_t length)
+int flash_erase(void *context, size_t address, size_t length)
 {
     uint8_t erased[TEALSETTLE_SEGMENT];
     memset(erased, 0xFF, sizeof erased);
-    write_at(flash, address, erased, length);
+    return write_at(context, address, erased, length);
 }
 
-static void program(const Flash *flash, size_t address, const uint8_t *bytes, size_t length)
+int flash_program(void *context, size_t address, const uint8_t *bytes, size_t length)
 {
     uint8_t page[TEALSETTLE_PAGE];
-    read_at(flash, address, page, length);
+    if (flash_read(context, address, page, length) != (int)length)
+        return -1;
     for (size_t i = 0; i < length; i++)
         page[i] &= bytes[i];
-    write_at(flash, address, page, length);
+    return write_at(context, address, page, length);
 }
 
-void carry_out(const Flash *flash, const TealsettleOrder *order, uint8_t seen[TEALSETTLE_PAGE])
+int flush_flash(Flash *flash)
 {
-    switch (order->operation) {
-    case TEALSETTLE_ERASE:
-        erase(flash, order->address, order->length);
-        return;
-    case TEALSETTLE_PROGRAM:
-        program(flash, order->address, order->bytes, order->length);
-        return;
-    case TEALSETTLE_LOOK:
-        read_at(flash, order->address, seen, order->length);
-        return;
-    }
-}
-
-void flush_flash(const Flash *flash)
-{
-    if (!flushed(flash->descriptor))
-        fail_in_run(flash, strerror(errno));
+    return flushed(flash->descriptor) ? 0 : failed(flash, strerror(errno));
 }

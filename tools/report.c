@@ -13,7 +13,7 @@ static int report(const Arguments *arguments)
     if (answer.number != 0)
         return refused(chip.name, answer.number, answer.place);
     fwrite(text, 1, answer.length, stdout);
-    return boot.stuck ? ANSWER_NO : DONE;
+    return tealsettle_loads(boot) ? DONE : ANSWER_NO;
 }
 
 const Command report_command = {

@@ -6,7 +6,7 @@
 #include <string.h>
 
 static const Command *const commands[] = {
-    &report_command, &check_command, &image_command, &build_command, &update_command, &cut_command,
+    &report_command, &switch_command, &check_command, &image_command, &build_command, &update_command, &cut_command,
 };
 enum { COMMANDS = sizeof commands / sizeof *commands };
 

@@ -146,6 +146,8 @@ int say_boot(FILE *to, const File *chip);
 typedef struct {
     const char *name;
     int descriptor;
+    uint32_t phase;  /* of the order that came last */
+    const char *why; /* it failed in a run; or null */
 } Flash;
 
 /* Opens a chip's file to write it, and locks it until the program ends: no other command of ours then writes it. */
@@ -157,11 +159,13 @@ void check_named(const Flash *flash);
 /* All its bytes. */
 File read_flash(const Flash *flash);
 
-/* Carries an order out, once. What a look reads is put into `seen`. */
-void carry_out(const Flash *flash, const TealsettleOrder *order, uint8_t seen[TEALSETTLE_PAGE]);
+/* The functions of a driver (TealsettleFlash), whose context is a Flash. Where they fail, `why` says why. */
+int flash_read(void *context, size_t address, uint8_t *bytes, size_t length);
+int flash_erase(void *context, size_t address, size_t length);
+int flash_program(void *context, size_t address, const uint8_t *bytes, size_t length);
 
-/* What has been written is on the disk before anything that is written later. */
-void flush_flash(const Flash *flash);
+/* What has been written is on the disk before anything that is written later: 0; or not, as in a driver's function. */
+int flush_flash(Flash *flash);
 
 /* ---- progress.c: how far a run is ---- */
 
@@ -177,6 +181,6 @@ void end_progress(void);
 
 /* ---- The commands ---- */
 
-extern const Command report_command, check_command, image_command, build_command, update_command, cut_command;
+extern const Command report_command, switch_command, check_command, image_command, build_command, update_command, cut_command;
 
 #endif

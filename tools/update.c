@@ -4,53 +4,37 @@
 
 #include <signal.h>
 
-/* Carries out the order of a state, and replies. What a phase wrote goes to the disk before the next phase begins: so the
- * phases also come in their order on a disk whose computer fails. */
-static TealsettleReply obey(const Flash *flash, TealsettleState state, const File *image)
+/* Before each order. What a phase wrote goes to the disk before the next phase begins: so the phases also come in their order
+ * on a disk whose computer fails. */
+static int begin_order(void *context, const TealsettleAhead *ahead)
 {
-    uint8_t seen[TEALSETTLE_PAGE];
-    TealsettleOrder order = tealsettle_order(TEALSETTLE_SPI, TEALSETTLE_STATE(state), image->bytes, image->length);
-    bool look = order.operation == TEALSETTLE_LOOK;
-    carry_out(flash, &order, seen);
-    TealsettleReply reply =
-        tealsettle_reply(TEALSETTLE_SPI, TEALSETTLE_STATE(state), image->bytes, image->length,
-                         look ? TEALSETTLE_READ : TEALSETTLE_DONE, seen, look ? order.length : 0);
-    if (reply.state.phase != state.phase)
-        flush_flash(flash);
-    return reply;
+    Flash *flash = context;
+    bool next_phase = ahead->phase != flash->phase;
+    flash->phase = ahead->phase;
+    if (next_phase && flush_flash(flash) != 0)
+        return -1;
+    show_progress(ahead->phase, ahead->number, ahead->orders);
+    return 0;
 }
 
-static bool has_ended(TealsettleState state)
+static int update_flash(Flash *flash, size_t length, size_t place, size_t area, const File *image)
 {
-    return tealsettle_finished(TEALSETTLE_SPI, TEALSETTLE_STATE(state)).ended;
-}
-
-static TealsettleReply run(const Flash *flash, TealsettleState first, const File *image, size_t total)
-{
-    TealsettleReply reply = {.state = first};
-    for (size_t number = 1; reply.number == 0 && !has_ended(reply.state); number++) {
-        show_progress(reply.state.phase, number, total);
-        reply = obey(flash, reply.state, image);
-    }
+    const TealsettleFlash driver = {flash, flash_erase, flash_program, flash_read, begin_order};
+    TealsettleUpdate result =
+        tealsettle_update(TEALSETTLE_SPI, length, place, area, image->bytes, image->length, &driver);
     end_progress();
-    return reply;
-}
-
-static int update_flash(const Flash *flash, size_t length, size_t place, size_t area, const File *image)
-{
-    TealsettleStart start = tealsettle_start(TEALSETTLE_SPI, length, place, area, image->bytes, image->length);
-    if (start.number != 0)
-        return refused_run(flash->name, image->name, start.number, start.place);
-    TealsettleTotal total = tealsettle_total(TEALSETTLE_SPI, length, place, area, image->length);
-    TealsettleReply reply = run(flash, start.state, image, total.orders);
+    if (result.number == TEALSETTLE_ABANDONED)
+        trouble(flash->name, joined(flash->why, ": the run has not come to its end; run it again"));
+    if (result.number != 0 && result.order == 0)
+        return refused_run(flash->name, image->name, result.number, result.place);
     check_named(flash);
     File chip = read_flash(flash);
     int status = say_boot(stdout, &chip);
-    return reply.number == 0 ? status : stopped(flash->name, reply.number, reply.place);
+    return result.number == 0 ? status : stopped(flash->name, result.number, result.place);
 }
 
 /* U is the one that the chip names, also if it is given: what is written elsewhere would not load. */
-static int update_chip(const Arguments *arguments, const Flash *flash, const File *image)
+static int update_chip(const Arguments *arguments, Flash *flash, const File *image)
 {
     size_t place;
     File chip = read_flash(flash);

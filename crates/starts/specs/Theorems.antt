@@ -12,6 +12,7 @@ use Rattle.updater.specs.State.{after, running, currentOrder}
 use Rattle.starts.specs.Types.{Layout, State, Started, Progress}
 use Rattle.starts.specs.Starts.{startAnswer, progressAnswer}
 
+-- The number of an order, as `progress` gives it, is its place in the run's list of orders.
 pub record OrdersAreCounted : Type 0 where
   -- The first order of a run has the number 1;
   pub first : (kind : Kind) → Lawful kind → (layout : Layout) (image : List ℕ) (state : State) → startAnswer kind layout image ≡ Started state → progressAnswer state ≡ Progress 1 (total layout (length image))

@@ -1,0 +1,83 @@
+/* A host in the words of C99, C11 and C++17 alike, over the functions of include/tealsettle.h that take a state or a cursor
+ * itself: the loop of the header on a chip in memory, and the writes that the chip then loads, one by one. */
+#include "../include/tealsettle.h"
+
+#include <stdio.h>
+#include <string.h>
+
+enum { LENGTH = 16384, UPDATE = 12288, AREA = 4096 };
+
+static const uint8_t image[12] = {0xAA, 0x99, 0x55, 0x66, 0x30, 0x00, 0x80, 0x01, 0x00, 0x00, 0x00, 0x0D};
+static uint8_t chip[LENGTH];
+static size_t orders; /* carried out so far */
+
+static void carry_out(const TealsettleOrder *order)
+{
+    if (order->operation == TEALSETTLE_ERASE)
+        memset(chip + order->address, 0xFF, order->length);
+    if (order->operation == TEALSETTLE_PROGRAM)
+        for (size_t i = 0; i < order->length; i++)
+            chip[order->address + i] = (uint8_t)(chip[order->address + i] & order->bytes[i]);
+    orders++;
+}
+
+/* The order's number is as many as were carried out, and one. */
+static int is_counted(TealsettleState state)
+{
+    TealsettleProgress at = tealsettle_run_progress(TEALSETTLE_SPI, state);
+    return at.number == 0 && at.order == orders + 1 && at.orders == 37;
+}
+
+static uint32_t run(void)
+{
+    TealsettleStart start = tealsettle_start(TEALSETTLE_SPI, LENGTH, UPDATE, AREA, image, sizeof image);
+    TealsettleState state = start.state;
+    uint32_t number = start.number;
+    while (number == 0 && !tealsettle_run_finished(TEALSETTLE_SPI, state).ended) {
+        TealsettleOrder order = tealsettle_run_order(TEALSETTLE_SPI, state, image, sizeof image);
+        if (!is_counted(state))
+            return TEALSETTLE_ABANDONED;
+        carry_out(&order);
+        TealsettleReply reply =
+            order.operation == TEALSETTLE_LOOK
+                ? tealsettle_run_read(TEALSETTLE_SPI, state, image, sizeof image, chip + order.address, order.length)
+                : tealsettle_run_done(TEALSETTLE_SPI, state, image, sizeof image);
+        number = reply.number;
+        state = reply.state;
+    }
+    return number;
+}
+
+static size_t count_writes(void)
+{
+    size_t writes = 0;
+    TealsettleListing list = tealsettle_writes(TEALSETTLE_SPI, chip, sizeof chip);
+    TealsettleStep step = tealsettle_list_next(TEALSETTLE_SPI, list.cursor, chip, sizeof chip);
+    for (; step.found; step = tealsettle_list_next(TEALSETTLE_SPI, step.cursor, chip, sizeof chip))
+        writes++;
+    return writes;
+}
+
+/* The three ways to say the version are one. */
+static int is_one_version(void)
+{
+    char text[32];
+    uint32_t number = tealsettle_version();
+    snprintf(text, sizeof text, "%u.%u.%u", (unsigned)(number / 10000), (unsigned)(number / 100 % 100), (unsigned)(number % 100));
+    return number == TEALSETTLE_VERSION_NUMBER && strcmp(text, TEALSETTLE_VERSION) == 0;
+}
+
+int main(void)
+{
+    TealsettleBuild built = tealsettle_build(TEALSETTLE_SPI, LENGTH, UPDATE, AREA, image, sizeof image, chip, sizeof chip);
+    uint32_t number = run();
+    TealsettleBoot boot = tealsettle_boot(TEALSETTLE_SPI, chip, sizeof chip);
+    int good = built.number == 0 && number == 0 && orders == 37 && tealsettle_loads(boot) && boot.jumped &&
+               count_writes() == boot.writes && tealsettle_switch(TEALSETTLE_SPI, chip, sizeof chip).on && is_one_version();
+    memset(chip, 0, sizeof chip);
+    boot = tealsettle_boot(TEALSETTLE_SPI, chip, sizeof chip);
+    good = good && boot.number == 0 && !tealsettle_loads(boot);
+    if (!good)
+        printf("a host does not get the answers that the header promises\n");
+    return !good;
+}
