@@ -1,4 +1,5 @@
-/* The configuration reader: the search looks at every byte, and every word after it is visited. */
+/* The configuration reader. It searches for the sync word's first byte with memchr, and passes a packet's data words at
+ * once: only those of CMD are looked at, and the last one of WBSTAR. Where writes are listed, every data word is visited. */
 #include "reference.h"
 
 #include <string.h>
@@ -10,14 +11,13 @@
 
 enum { CMD = 4, WBSTAR = 16 };
 
-/* How a reading of packets goes, or ends. */
-typedef enum { GOING, ENDED, JUMPS, FAULT, SHORT } Status;
+/* What comes next in a reading of packets, or how it ends. */
+typedef enum { DATA, HEADER, ENDED, JUMPS, FAULT, SHORT } Status;
 
-/* Where a reading is: the next word, the packet it stands in, and what was met so far. */
+/* Where a reading is: the next word, the packet it is in, and what was met so far. */
 typedef struct {
     size_t at, writes;
     uint32_t reg, left, wbstar;
-    int opened; /* the word just before is a type 1 write header of count 0 */
 } Scanner;
 
 /* Where writes are listed. Without a list they are only counted; all that takes a sink is inlined, so that a
@@ -34,13 +34,28 @@ static inline uint32_t word_at(const uint8_t *bytes)
     return __builtin_bswap32(word);
 }
 
-/* The first place from `at` on where the sync word stands; `length` where there is none. */
+/* The first place from `at` on where the sync word begins; `length` where there is none. */
 static inline size_t find_sync(const uint8_t *bytes, size_t length, size_t at)
 {
-    for (; at + 4 <= length; at++)
-        if (word_at(bytes + at) == SYNC)
-            return at;
+    while (length - at >= 4) {
+        const uint8_t *first = memchr(bytes + at, SYNC >> 24, length - at - 3);
+        if (!first)
+            return length;
+        if (word_at(first) == SYNC)
+            return (size_t)(first - bytes);
+        at = (size_t)(first - bytes) + 1;
+    }
     return length;
+}
+
+/* A type 2 header counts only right after a type 1 write header of count 0: so it is taken with that one. */
+static inline void take_type2(const uint8_t *bytes, size_t length, Scanner *s)
+{
+    if (length - s->at < 4)
+        return;
+    uint32_t word = word_at(bytes + s->at);
+    if ((word & 0xF8000000u) == 0x50000000u)
+        s->left = word & 0x07FFFFFF, s->at += 4;
 }
 
 static inline Status take_header(const uint8_t *bytes, size_t length, Scanner *s)
@@ -48,20 +63,20 @@ static inline Status take_header(const uint8_t *bytes, size_t length, Scanner *s
     if (length - s->at < 4)
         return SHORT;
     uint32_t word = word_at(bytes + s->at);
-    if ((word & 0xFFFC1800u) == 0x30000000u)
-        s->reg = word >> 13 & 31, s->left = word & 0x7FF, s->opened = s->left == 0;
-    else if (word == NOP)
-        s->opened = 0;
-    else if ((word & 0xF8000000u) == 0x50000000u && s->opened)
-        s->left = word & 0x07FFFFFF, s->opened = 0;
-    else
+    if (word == NOP) {
+        s->at += 4, s->left = 0;
+        return HEADER;
+    }
+    if ((word & 0xFFFC1800u) != 0x30000000u)
         return FAULT;
-    s->at += 4;
-    return GOING;
+    s->at += 4, s->reg = word >> 13 & 31, s->left = word & 0x7FF;
+    if (s->left == 0)
+        take_type2(bytes, length, s);
+    return DATA;
 }
 
 /* An IPROG is a write too, but it ends its list: so it need not be counted. */
-static inline Status take_data(const uint8_t *bytes, size_t length, Scanner *s, Sink sink)
+static inline Status visit_data(const uint8_t *bytes, size_t length, Scanner *s, Sink sink)
 {
     for (; s->left > 0; s->left--) {
         if (length - s->at < 4)
@@ -77,7 +92,28 @@ static inline Status take_data(const uint8_t *bytes, size_t length, Scanner *s, 
         if (s->reg == WBSTAR)
             s->wbstar = word;
     }
-    return GOING;
+    return HEADER;
+}
+
+/* All data words of a packet at once, of any register but CMD. A single one, which most packets have, is told apart: the
+ * place after it is then known by prediction, and need not wait for the count to be loaded. */
+static inline Status skip_data(const uint8_t *bytes, size_t length, Scanner *s)
+{
+    if (s->left == 1 && s->reg != WBSTAR && length - s->at >= 4) {
+        s->at += 4, s->writes++;
+        return HEADER;
+    }
+    if (s->left > (length - s->at) / 4)
+        return SHORT;
+    s->at += 4 * (size_t)s->left, s->writes += s->left;
+    if (s->reg == WBSTAR && s->left > 0)
+        s->wbstar = word_at(bytes + s->at - 4);
+    return HEADER;
+}
+
+static inline Status take_data(const uint8_t *bytes, size_t length, Scanner *s, Sink sink)
+{
+    return sink.list || s->reg == CMD ? visit_data(bytes, length, s, sink) : skip_data(bytes, length, s);
 }
 
 static inline Status read_packets(const uint8_t *bytes, size_t length, Scanner *scanner, Sink sink)
@@ -86,9 +122,9 @@ static inline Status read_packets(const uint8_t *bytes, size_t length, Scanner *
     Status status;
     do {
         status = take_header(bytes, length, &s);
-        if (status == GOING)
+        if (status == DATA)
             status = take_data(bytes, length, &s, sink);
-    } while (status == GOING);
+    } while (status == HEADER);
     *scanner = s;
     return status;
 }
@@ -163,9 +199,11 @@ int reference_next_write(ReferenceCursor *cursor, const uint8_t *bytes, size_t l
     size_t left = cursor->left;
     if (cursor->remaining == 0 || s.at > length)
         return 0;
-    for (; left == 0; left = s.left)
-        if (take_header(bytes, length, &s) != GOING)
+    for (; left == 0; left = s.left) {
+        Status next = take_header(bytes, length, &s);
+        if (next != DATA && next != HEADER)
             return 0;
+    }
     if (length - s.at < 4)
         return 0;
     uint32_t word = word_at(bytes + s.at);
