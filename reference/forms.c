@@ -36,15 +36,23 @@ static ReferenceForm bit_form(const uint8_t *file, size_t length)
     return (ReferenceForm){.form = TEALSETTLE_BIT, .first = at + 5, .length = content};
 }
 
-/* Eight bytes at a time, and then one by one. */
+enum { BLOCK = 64 };
+
+/* All are or-ed together before one is asked about: so the compiler takes many at once. */
+static inline int is_text_block(const uint8_t *block)
+{
+    uint8_t any = 0;
+    for (size_t i = 0; i < BLOCK; i++)
+        any |= block[i];
+    return any <= 0x7F;
+}
+
+/* Blocks, and then one by one. */
 static int is_text(const uint8_t *file, size_t length)
 {
     size_t i = 0;
-    for (uint64_t eight; length - i >= sizeof eight; i += sizeof eight) {
-        memcpy(&eight, file + i, sizeof eight);
-        if (eight & 0x8080808080808080u)
-            return 0;
-    }
+    while (length - i >= BLOCK && is_text_block(file + i))
+        i += BLOCK;
     while (i < length && file[i] <= 0x7F)
         i++;
     return i == length;
