@@ -1,4 +1,4 @@
-/* What the benchmarks share: a row of the table, and the numbers that inputs are made of. */
+/* What the benchmarks share: a row of the table, the inputs, and the numbers that they are made of. */
 #ifndef BENCH_H
 #define BENCH_H
 
@@ -6,6 +6,15 @@
 #include <stdint.h>
 
 enum { MIB16 = 16 << 20, FIELDS = 9 };
+
+/* The peer in plain C is the reference, compiled by whichever compiler builds this program. */
+#if defined __clang__
+#define PLAIN_C "C, clang"
+#elif defined __GNUC__
+#define PLAIN_C "C, gcc"
+#else
+#define PLAIN_C "C"
+#endif
 
 /* What a job came to, field by field. The other side's must be the same. */
 typedef struct {
@@ -24,15 +33,9 @@ typedef struct {
 /* A row: ours beside a peer. */
 typedef struct {
     const char *name;
-    size_t size;  /* of the input in bytes */
-    size_t count; /* of the units that one job deals with, or 0 */
-    const char *unit;
-    double goal; /* ours must be so many times as fast; 0: there is no goal */
+    size_t size; /* of the input in bytes */
     Side ours, peer;
 } Row;
-
-/* "Within 1.2x of plain C". */
-#define AS_PLAIN (1 / 1.2)
 
 void table_begin(int runs);
 void table_row(const Row *row);
@@ -46,17 +49,44 @@ uint64_t next_random(void);
 size_t below(size_t n);
 void fill_random(uint8_t *bytes, size_t length);
 
-/* The rows, by topic. `directory` is for files, and `self` runs this program again. */
-void mcs_rows(const char *directory, char *self);
-int mcs_read_file(const char *in, const char *out);
-void boot_rows(void);
-void list_rows(void);
-void update_rows(void);
+/* Whole files. */
+uint8_t *load(const char *path, size_t *length);
+void unload(uint8_t *bytes, size_t length);
+void store(const char *path, const uint8_t *bytes, size_t length);
 
-/* A chip of packets of one word, of any register but CMD; how many there are. */
-size_t make_ones(uint8_t *chip);
+/* ---- Inputs ---- */
 
 /* An image or a chip of `length` bytes that loads: one type 2 packet of random words, then DESYNC. */
 void make_long_packet(uint8_t *bytes, size_t length);
+
+/* Chips of 16 MiB. The packets are of any register but CMD, where nothing else is said. */
+void make_long(uint8_t *chip);     /* one type 2 packet */
+void make_ones(uint8_t *chip);     /* packets of one word */
+void make_twos(uint8_t *chip);     /* of two */
+void make_threes(uint8_t *chip);   /* of three */
+void make_type2s(uint8_t *chip);   /* type 2 packets of one word */
+void make_nops(uint8_t *chip);     /* no-operations */
+void make_commands(uint8_t *chip); /* packets of one word of CMD */
+void make_mixed(uint8_t *chip);    /* packets of 0 to 8 words of any register, and no-operations */
+void make_erased(uint8_t *chip);   /* FF */
+void make_noise(uint8_t *chip);    /* random bytes, no sync word */
+
+/* Images with the packets of the two kinds of bitstream, in a buffer of 16 MiB; how long they are. */
+size_t make_plain_bitstream(uint8_t *image);      /* one long packet of FDRI */
+size_t make_compressed_bitstream(uint8_t *image); /* thousands of packets of FAR, FDRI and MFWR */
+
+/* ---- The rows ---- */
+
+/* Beside other programs, and memmem. Files are made in `directory`, and `self` runs this program again. */
+void mcs_file_rows(const char *directory, char *self);
+void search_rows(void);
+int mcs_read_file(const char *in, const char *out);
+
+/* Beside the reference. */
+void mcs_call_rows(void);
+void boot_rows(void);
+void image_rows(char *const *bitstreams, int count);
+void list_rows(void);
+void update_rows(void);
 
 #endif

@@ -1,5 +1,5 @@
-/* All writes of a chip of 16 MiB, packets of one word: one by one, a call each, beside the same in plain C; and as a report,
- * beside plain C that lists them in memory first. */
+/* All writes of a chip of 16 MiB, packets of one word, beside the reference: one by one, a call each; and as a report, for
+ * which the reference lists them in memory first. */
 #include "bench.h"
 
 #include <stdlib.h>
@@ -88,16 +88,16 @@ static Answer report_answer(void *context)
 void list_rows(void)
 {
     uint8_t *chip = buffer(MIB16);
-    size_t packets = make_ones(chip);
+    make_ones(chip);
     Call ours = {.chip = chip, .report = buffer(TEALSETTLE_REPORT_ROOM(MOST_WRITES))};
     Call peer = {.chip = chip, .report = buffer(TEALSETTLE_REPORT_ROOM(MOST_WRITES)),
                  .list = buffer(MOST_WRITES * sizeof(ReferenceWrite))};
-    Row row = {"writes one by one: packets of 1 word", MIB16, packets, "packets", AS_PLAIN,
-               {"tealsettle", ours_list, list_answer, &ours}, {"plain C", reference_list, list_answer, &peer}};
+    Row row = {"writes one by one: packets of 1 word", MIB16, {"tealsettle", ours_list, list_answer, &ours},
+               {PLAIN_C, reference_list, list_answer, &peer}};
     table_row(&row);
     row.name = "report: packets of 1 word";
     row.ours = (Side){"tealsettle", ours_report, report_answer, &ours};
-    row.peer = (Side){"plain C", reference_report_job, report_answer, &peer};
+    row.peer = (Side){PLAIN_C, reference_report_job, report_answer, &peer};
     table_row(&row);
     free(chip), free(ours.report), free(peer.report), free(peer.list);
 }

@@ -1,44 +1,20 @@
 /* Reading MCS text: a 16 MiB image as text, file to file beside tools that do the same job, each a process of
- * its own; and the call alone, from memory to memory. */
+ * its own; and the calls alone, from memory to memory, beside the reference. */
 #include "bench.h"
 
-#include <fcntl.h>
 #include <spawn.h>
 #include <stdio.h>
 #include <stdlib.h>
 #include <string.h>
-#include <sys/mman.h>
-#include <sys/stat.h>
 #include <sys/wait.h>
 #include <unistd.h>
 
 #include "../include/tealsettle.h"
 #include "../reference/reference.h"
 
-enum { PER_RECORD = 16, SEGMENT = 65536, PATH = 4096, RECORDS = MIB16 / PER_RECORD + MIB16 / SEGMENT + 1 };
+enum { PER_RECORD = 16, SEGMENT = 65536, PATH = 4096 };
 
 extern char **environ;
-
-static uint8_t *load(const char *path, size_t *length)
-{
-    int fd = open(path, O_RDONLY);
-    struct stat s;
-    if (fd < 0 || fstat(fd, &s) != 0)
-        fail(path);
-    *length = (size_t)s.st_size;
-    uint8_t *bytes = mmap(NULL, *length, PROT_READ, MAP_PRIVATE | MAP_POPULATE, fd, 0);
-    if (bytes == MAP_FAILED)
-        fail(path);
-    close(fd);
-    return bytes;
-}
-
-static void store(const char *path, const uint8_t *bytes, size_t length)
-{
-    FILE *f = fopen(path, "wb");
-    if (!f || fwrite(bytes, 1, length, f) != length || fclose(f) != 0)
-        fail(path);
-}
 
 static uint8_t *put_pairs(uint8_t *at, const uint8_t *pairs, unsigned count)
 {
@@ -64,18 +40,26 @@ static uint8_t *put_record(uint8_t *at, unsigned address, unsigned type, const u
     return at;
 }
 
-/* The text of an image of 16 MiB; how long it is. */
-static size_t make_text(const uint8_t *image, uint8_t *text)
+/* A random image of 16 MiB, its text, and how long that is. */
+typedef struct {
+    uint8_t *image, *text;
+    size_t length;
+} Made;
+
+static Made make_text(void)
 {
-    uint8_t *at = text;
+    Made m = {.image = buffer(MIB16), .text = buffer(3 * MIB16)};
+    uint8_t *at = m.text;
+    fill_random(m.image, MIB16);
     for (size_t i = 0; i < MIB16; i += PER_RECORD) {
         uint8_t half[2] = {(uint8_t)(i >> 24), (uint8_t)(i >> 16)};
         if (i % SEGMENT == 0)
             at = put_record(at, 0, 4, half, 2);
-        at = put_record(at, (unsigned)(i % SEGMENT), 0, image + i, PER_RECORD);
+        at = put_record(at, (unsigned)(i % SEGMENT), 0, m.image + i, PER_RECORD);
     }
-    at = put_record(at, 0, 1, image, 0);
-    return (size_t)(at - text);
+    at = put_record(at, 0, 1, m.image, 0);
+    m.length = (size_t)(at - m.text);
+    return m;
 }
 
 /* ---- File to file ---- */
@@ -112,7 +96,7 @@ static Answer process_answer(void *context)
     size_t length;
     uint8_t *bytes = load(p->out, &length);
     size_t same = length == MIB16 && memcmp(bytes, p->image, MIB16) == 0;
-    munmap(bytes, length);
+    unload(bytes, length);
     if (!same) {
         printf("%s gave another image\n", p->command[0]);
         exit(1);
@@ -136,25 +120,26 @@ int mcs_read_file(const char *in, const char *out_path)
     return 0;
 }
 
-static void file_rows(const char *directory, char *self, const uint8_t *image, const uint8_t *text, size_t length)
+void mcs_file_rows(const char *directory, char *self)
 {
+    Made made = make_text();
     char in[PATH], ours_out[PATH], peer_out[PATH];
     snprintf(in, sizeof in, "%s/image.mcs", directory);
     snprintf(ours_out, sizeof ours_out, "%s/ours.bin", directory);
     snprintf(peer_out, sizeof peer_out, "%s/peer.bin", directory);
-    store(in, text, length);
+    store(in, made.text, made.length);
     char *ours_command[] = {self, "read", in, ours_out, NULL};
     char *objcopy_command[] = {"objcopy", "-I", "ihex", "-O", "binary", in, peer_out, NULL};
     char *srec_cat_command[] = {"srec_cat", in, "-Intel", "-o", peer_out, "-Binary", NULL};
-    Process ours = {ours_command, ours_out, image}, objcopy = {objcopy_command, peer_out, image},
-            srec_cat = {srec_cat_command, peer_out, image};
-    Row row = {"MCS text to image, file to file", length, RECORDS, "records", 3, {"tealsettle", run_process, process_answer, &ours},
+    Process ours = {ours_command, ours_out, made.image}, objcopy = {objcopy_command, peer_out, made.image},
+            srec_cat = {srec_cat_command, peer_out, made.image};
+    Row row = {"MCS text to image, file to file", made.length, {"tealsettle", run_process, process_answer, &ours},
                {"objcopy", run_process, process_answer, &objcopy}};
     table_row(&row);
     unlink(peer_out);
     row.peer = (Side){"srec_cat", run_process, process_answer, &srec_cat};
-    row.goal = 0;
     table_row(&row);
+    free(made.image), free(made.text);
 }
 
 /* ---- The call alone ---- */
@@ -210,20 +195,17 @@ static Answer form_answer(void *context)
     return (Answer){{"form"}, {((Call *)context)->form}};
 }
 
-void mcs_rows(const char *directory, char *self)
+void mcs_call_rows(void)
 {
-    uint8_t *image = buffer(MIB16), *text = buffer(3 * MIB16);
-    fill_random(image, MIB16);
-    size_t length = make_text(image, text);
-    file_rows(directory, self, image, text, length);
-    Call ours = {.text = text, .image = image, .length = length, .out = buffer(MIB16)};
-    Call peer = {.text = text, .image = image, .length = length, .out = buffer(MIB16)};
-    Row row = {"MCS text to image, the call alone", length, RECORDS, "records", AS_PLAIN, {"tealsettle", ours_call, call_answer, &ours},
-               {"plain C", reference_call, call_answer, &peer}};
+    Made made = make_text();
+    Call ours = {.text = made.text, .image = made.image, .length = made.length, .out = buffer(MIB16)};
+    Call peer = {.text = made.text, .image = made.image, .length = made.length, .out = buffer(MIB16)};
+    Row row = {"MCS text to image, the call alone", made.length, {"tealsettle", ours_call, call_answer, &ours},
+               {PLAIN_C, reference_call, call_answer, &peer}};
     table_row(&row);
     row.name = "form of a file: MCS text";
     row.ours = (Side){"tealsettle", ours_form, form_answer, &ours};
-    row.peer = (Side){"plain C", reference_form, form_answer, &peer};
+    row.peer = (Side){PLAIN_C, reference_form, form_answer, &peer};
     table_row(&row);
-    free(image), free(text), free(ours.out), free(peer.out);
+    free(made.image), free(made.text), free(ours.out), free(peer.out);
 }

@@ -12,11 +12,10 @@
 static const double BATCH_SECONDS = 0.002;
 static const double TURN_SECONDS = 0.05;
 
-enum { MOST_NOTES = 64 };
+/* Ours is to take at most 1.2 times the peer's time: the one goal of every row. */
+static const double GOAL = 1 / 1.2;
 
 static int runs, misses;
-static char notes[MOST_NOTES][160]; /* of the rows in which the peer is faster */
-static int noted;
 
 void fail(const char *what)
 {
@@ -129,44 +128,24 @@ static int decimals(double number)
     return number < 10 ? 2 : number < 100 ? 1 : 0;
 }
 
-static const char *rate_text(double count, const char *unit, char *text, size_t size)
-{
-    static const char *const scales[] = {"", "k", "M", "G", "T", "P", "E"};
-    int i = 0;
-    for (; count >= 1000 && i < 6; i++)
-        count /= 1000;
-    snprintf(text, size, "%.*f %s%s/s", decimals(count), count, scales[i], unit);
-    return text;
-}
-
-/* The columns before the peer's time. */
 static void print_ours(const Row *row, double ours)
 {
-    char time[32], bytes[32], units[32] = "";
-    if (row->count)
-        rate_text((double)row->count / ours, row->unit, units, sizeof units);
-    printf("%-36s %9zu %10s %10s %16s  %-8s", row->name, row->size, time_text(ours, time, sizeof time),
-           rate_text((double)row->size / ours, "B", bytes, sizeof bytes), units, row->peer.name);
+    char time[32];
+    printf("%-40s %9zu %10s  %-8s", row->name, row->size, time_text(ours, time, sizeof time), row->peer.name);
 }
 
-static void print_peer(const Row *row, double ours, double peer)
+static void print_peer(double ours, double peer)
 {
-    char time[32], goal[32] = "";
+    char time[32];
     double ratio = peer / ours;
-    if (row->goal > 0)
-        snprintf(goal, sizeof goal, "%.*fx", row->goal < 1 ? 2 : 0, row->goal);
-    printf(" %10s %8.*fx %6s %4s\n", time_text(peer, time, sizeof time), decimals(ratio), ratio, goal,
-           row->goal == 0 ? "" : ratio < row->goal ? "NO" : "yes");
-    misses += ratio < row->goal;
-    if (ratio < 1 && noted < MOST_NOTES)
-        snprintf(notes[noted++], sizeof notes[0], "%s: %s takes %.2f of our time", row->name, row->peer.name, ratio);
+    printf(" %10s %8.*fx %4s\n", time_text(peer, time, sizeof time), decimals(ratio), ratio, ratio < GOAL ? "NO" : "yes");
+    misses += ratio < GOAL;
 }
 
 void table_begin(int wanted_runs)
 {
     runs = wanted_runs;
-    printf("%-36s %9s %10s %10s %16s  %-8s %10s %9s %6s %4s\n", "job", "bytes", "ours", "bytes/s", "units/s", "peer", "peer's",
-           "ours is", "goal", "met");
+    printf("%-40s %9s %10s  %-8s %10s %9s %4s\n", "job", "bytes", "ours", "peer", "peer's", "ours is", "goal");
 }
 
 void table_row(const Row *row)
@@ -186,7 +165,7 @@ void table_row(const Row *row)
     }
     print_ours(row, ours);
     if (installed)
-        print_peer(row, ours, peer);
+        print_peer(ours, peer);
     else
         printf(" not installed\n");
     fflush(stdout);
@@ -194,7 +173,6 @@ void table_row(const Row *row)
 
 void table_end(void)
 {
-    printf("\nProcessor time, best of %d turns. \"ours is\" says how many times as fast. Goals not met: %d.\n", runs, misses);
-    for (int i = 0; i < noted; i++)
-        printf("The peer is faster: %s.\n", notes[i]);
+    printf("Processor time, best of %d turns. \"ours is\": how many times as fast as the peer. Goal: %.2f; rows below it: %d.\n",
+           runs, GOAL, misses);
 }

@@ -164,7 +164,7 @@ static void same_step(Flash *flash, const uint8_t *image, size_t k, TealsettleSt
     *s = r.state;
 }
 
-static size_t same_run(Flash *flash, const uint8_t *image)
+static void same_run(Flash *flash, const uint8_t *image)
 {
     ReferenceState theirs = {0};
     size_t place, orders = 0;
@@ -175,7 +175,6 @@ static size_t same_run(Flash *flash, const uint8_t *image)
     for (same_state(0, &s, &theirs); s.phase < 7; orders++)
         same_step(flash, image, orders, &s, &theirs);
     same("orders in all", orders, tealsettle_total(TEALSETTLE_SPI, MIB16, UPDATE, AREA, AREA).orders, orders);
-    return orders;
 }
 
 /* ---- Rows ---- */
@@ -193,10 +192,10 @@ void update_rows(void)
     uint8_t *image = buffer(AREA);
     make_long_packet(image, AREA);
     Flash ours_flash = make_flash(0), peer_flash = make_flash(0);
-    size_t orders = same_run(&ours_flash, image);
+    same_run(&ours_flash, image);
     Run ours = {.flash = &ours_flash, .image = image}, peer = {.flash = &peer_flash, .image = image};
-    Row row = {"update: a whole run", AREA, orders, "orders", AS_PLAIN, {"tealsettle", ours_run, run_answer, &ours},
-               {"plain C", reference_run, run_answer, &peer}};
+    Row row = {"update: a whole run", AREA, {"tealsettle", ours_run, run_answer, &ours},
+               {PLAIN_C, reference_run, run_answer, &peer}};
     table_row(&row);
     ours_flash.idle = peer_flash.idle = 1;
     row.name = "update: the calls of a whole run";
