@@ -1,8 +1,8 @@
 /* The specification in C, once: packets and what loads, layouts and the builder, a run's orders and replies, the
  * cut run, MCS text, the forms of image files and reports. The tests compare the library with it, and the benchmark
- * measures the library beside it: so it is written for speed, with normal care. It takes nothing from the library but names for the numbers of
- * refusals, orders and replies, and is compiled by itself, as a library is, so that no call is optimised for its
- * caller.
+ * measures the library beside it: so it is written to be fast. It takes nothing from the library but names for the
+ * numbers of refusals, orders and replies, and is compiled by itself, as a library is, so that no call is optimised
+ * for its caller.
  *
  * A function that returns a uint32_t returns the number of a refusal or stop, or 0. A place is 0 where none is
  * named, and a refusal leaves all else that is lent as it was. */
@@ -61,7 +61,8 @@ typedef struct {
 
 int reference_next_write(ReferenceCursor *cursor, const uint8_t *bytes, size_t length, ReferenceWrite *write);
 
-/* The report of a chip that was read so, and its length. The list is whole, and `out` has 27 bytes for each write, and 64 more. */
+/* The report of a chip that was read so, and its length. The list is whole, and `out` has 27 bytes for each write, and 64
+ * more. */
 size_t reference_report(const ReferenceBoot *boot, const ReferenceWrite *list, uint8_t *out);
 
 /* An image read by itself, for an area of `most` bytes: it is never stuck nor jumped, but refused. */
