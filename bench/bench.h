@@ -13,7 +13,7 @@ enum { MIB16 = 16 << 20, FIELDS = 9 };
 #elif defined __GNUC__
 #define PLAIN_C "C, gcc"
 #else
-#define PLAIN_C "C"
+#define PLAIN_C "C, cc"
 #endif
 
 /* What a job came to, field by field. The other side's must be the same. */

@@ -1,5 +1,5 @@
-/* Packet streams to read: chips full of one kind of packet, chips without a stream, and images with the packets of the two kinds
- * of bitstream that Vivado writes. */
+/* Packet streams to read: chips full of one kind of packet, chips without a stream, and images with the packets of the two
+ * kinds of bitstream that Vivado writes. */
 #define _GNU_SOURCE
 #include "bench.h"
 

@@ -173,6 +173,6 @@ void table_row(const Row *row)
 
 void table_end(void)
 {
-    printf("Processor time, best of %d turns. \"ours is\": how many times as fast as the peer. Goal: %.2f; rows below it: %d.\n",
+    printf("Processor time, best of %d turns. \"ours is\": how many times as fast as the peer. Goal: %.2f. Below it: %d.\n",
            runs, GOAL, misses);
 }

@@ -90,7 +90,8 @@ static int reference_run(void *context)
         reference_order(&s, r->image, AREA, &o);
         int look = o.operation == TEALSETTLE_LOOK;
         const uint8_t *read = carry_out(r->flash, o.operation, o.address, o.length, o.bytes);
-        r->number = reference_reply(&s, r->image, AREA, look ? TEALSETTLE_READ : TEALSETTLE_DONE, read, look ? o.length : 0, &r->place);
+        r->number = reference_reply(&s, r->image, AREA, look ? TEALSETTLE_READ : TEALSETTLE_DONE, read, look ? o.length : 0,
+                                    &r->place);
         r->orders++;
     }
     r->ended = (uint32_t)ended;
