@@ -29,7 +29,7 @@ WIDTH = 110
 # What is public only so that a crate above can use it: whole crates, modules and functions. These are no calls of the
 # library: they may ask something of their caller, and CONTRACTS.md has no entry for them.
 INTERNAL = (
-    'base', 'framing', 'packets', 'scanner', 'fastpath', 'writes::reading', 'writes::cursor::Cursor::new',
+    'base', 'framing', 'packets', 'scanner', 'fastpath', 'writes::reading', 'writes::next', 'writes::cursor::Cursor::new',
     'writes::cursor::nth_from', 'configreader', 'digits', 'mcsline', 'comparison', 'orders',
     'updater::state::current_operation', 'updater::state::current_bytes', 'updater::state::after_order', 'effects',
     'fields', 'reportlines', 'loadlines', 'results', 'fileresults', 'runresults')

@@ -23,7 +23,6 @@ use packets::header::effect_of;
 use scanner::scan::Scanner;
 use scanner::scan::Status;
 use scanner::scan::count_plain_words;
-use scanner::scan::from_sync;
 use writes::reading::scan;
 
 // A packet with data words: its register, the place of its first data word, how many of its data words
@@ -131,7 +130,7 @@ fn stop_answer(image: &[u8], w: Scanner) -> PacketAnswer
 fn first_packet(image: &[u8], at: usize) -> PacketAnswer
     ensures { λ r. ⌜ r ≡ firstPacket (now (image .entry)) (traceFrom (now (image .entry)) at) ⌝ }
 {
-    let w = scan(image, from_sync(at, 0));
+    let w = scan(image, at, 0);
     let status = w.status;
     let Status::Reached = status else {
         return stop_answer(image, w);

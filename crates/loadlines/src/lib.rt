@@ -17,6 +17,8 @@ use reportlines::WRITE;
 use reportlines::put_write;
 use writes::cursor::Cursor;
 use writes::cursor::CursorStep;
+use writes::next::next_of;
+use writes::next::step_at;
 
 // The length of the first line.
 const LOADED: usize = 14;
@@ -57,7 +59,8 @@ fn put_writes(chip: &[u8], cursor: Cursor, out: &mut [u8], at: usize) -> usize
     let mut next = at;
     let mut here = cursor;
     loop {
-        let step = here.step(chip);
+        let word = next_of(chip, here);
+        let step = step_at(chip, word, here.remaining);
         match step {
             CursorStep::Wrote { write, cursor } => {
                 put_write(out, next, write);

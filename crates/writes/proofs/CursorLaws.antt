@@ -9,32 +9,10 @@ use lib.Seq.{take-nil}
 use Rattle.framing.specs.Words.{words}
 use Rattle.packets.specs.Header.{headOf, effectOf}
 use Rattle.packets.specs.Trace.{other, Mode, header, payload, modeOf, afterHeader, Trace, wrote, desync, iprog, faulty, short, trace, listOf, nthWrite}
-use Rattle.scanner.specs.Scan.{scanned, ScanResult, ScanReached, ScanFinished}
 use Rattle.writes.specs.Cursor.{traceAt, remainingWrites, afterWrite, firstOf, stepOf, writesAfterStep, nthStep}
 use Rattle.writes.specs.Theorems.{stepWrite}
 use Rattle.writes.specs.Types.{Effect, GoesOn, Desync, EffectIprog, Write, Cursor, CursorStep, Wrote, Done}
 use Rattle.framing.proofs.Laws.{words-cons}
-
--- the step that a scanner for the very next write comes to
-unfoldable pub stepScanned : ScanResult → ℕ → CursorStep
-stepScanned (ScanReached write left) remaining = Wrote write (afterWrite write left remaining)
-stepScanned (ScanFinished end) remaining = Done
-
-first-scan : (t : Trace) (remaining : ℕ) → stepScanned (scanned t 0 0 0) remaining ≡ firstOf t remaining
-unfolding stepScanned scanned firstOf
-first-scan (wrote w left t) remaining = refl
-first-scan (desync e) remaining = refl
-first-scan (iprog p) remaining = refl
-first-scan (faulty p) remaining = refl
-first-scan short remaining = refl
-
-pub step-scan : (s : List ℕ) (c : Cursor) (remaining : ℕ) → c .remaining ≡ suc remaining → stepScanned (scanned (traceAt s c) 0 0 0) remaining ≡ stepOf s c
-unfolding stepOf
-step-scan s c remaining e = first-scan (traceAt s c) remaining ∙ sym (rw (e, stepOf) refl)
-
-pub step-none : (s : List ℕ) (c : Cursor) → c .remaining ≡ 0 → Done ≡ stepOf s c
-unfolding stepOf
-step-none s c e = sym (rw (e, stepOf) refl)
 
 -- the words after the first
 later : (s : List ℕ) (p x : ℕ) (ws : List ℕ) → (x ∷ ws) ≡ words (drop p s) → ws ≡ words (drop (p + 4) s)

@@ -1,2 +1,3 @@
 pub mod CursorLaws
+pub mod NextLaws
 pub mod Laws

@@ -4,15 +4,15 @@ ghost use Prim.Native.Nat.{_+_, _^_, _<_};
 ghost use Rattle.base.specs.Answer.{Gives};
 ghost use Rattle.packets.specs.Trace.{nthWrite, writesFrom};
 ghost use Rattle.writes.specs.Cursor.{cursorAt, remainingWrites, stepNumbers, stepOf, writesAfterStep, afterWrite};
+use crate::next::next_of;
+use crate::next::step_at;
 use crate::reading::scan;
 use crate::reading::write_at;
 use packets::header::Effect;
 use packets::header::effect_of;
 use packets::trace::Write;
 use packets::trace::WriteAnswer;
-use scanner::scan::Scanner;
 use scanner::scan::Status;
-use scanner::scan::from_sync;
 
 // A place among the writes of a chip or an image: the next word's place, the packet's register and
 // the data words left in it, and how many writes are still to come.
@@ -53,36 +53,12 @@ impl Cursor {
         ensures gives { λ r. ⌜ Gives stepNumbers r (stepOf (now (s .entry)) self) ⌝ }
         ensures lists { λ r. ⌜ writesAfterStep (now (s .entry)) r ≡ remainingWrites (now (s .entry)) self ⌝ }
     {
-        if self.remaining == 0 {
-            return CursorStep::Done;
-        }
-        let w = scan(
-            s,
-            Scanner {
-                at: self.at,
-                register: self.register,
-                left: self.left,
-                opened: false,
-                skip: 0,
-                writes: 0,
-                wbstar: 0,
-                status: Status::Going,
-            },
-        );
-        let status = w.status;
-        let Status::Reached = status else {
-            return CursorStep::Done;
-        };
-        let write = write_at(s, w);
-        CursorStep::Wrote {
-            write,
-            cursor: after_write(write, w.left, self.remaining - 1),
-        }
+        step_at(s, next_of(s, self), self.remaining)
     }
 }
 
 // The cursor after a write: nothing is to come after one that ends the reading or jumps.
-fn after_write(write: Write, left: usize, remaining: usize) -> Cursor
+pub(crate) fn after_write(write: Write, left: usize, remaining: usize) -> Cursor
     requires { ⌜ write .place + 4 < 2 ^ 64 ⌝ }
     ensures { λ r. ⌜ r ≡ afterWrite write left remaining ⌝ }
 {
@@ -104,7 +80,7 @@ fn after_write(write: Write, left: usize, remaining: usize) -> Cursor
 pub fn nth_from(s: &[u8], from: usize, i: usize) -> WriteAnswer
     ensures { λ r. ⌜ r ≡ nthWrite (writesFrom (now (s .entry)) from) i ⌝ }
 {
-    let w = scan(s, from_sync(from, i));
+    let w = scan(s, from, i);
     let status = w.status;
     let Status::Reached = status else {
         return WriteAnswer::Nothing;

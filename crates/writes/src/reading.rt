@@ -4,7 +4,7 @@ ghost use mathlib.Core.List.{List};
 ghost use Prim.Native.Nat.{ℕ, _+_, _≤_};
 ghost use lib.ListN.{length};
 ghost use Rattle.packets.specs.Trace.{finishFrom};
-ghost use Rattle.scanner.specs.Scan.{ScanFinished, scanOf, InBounds};
+ghost use Rattle.scanner.specs.Scan.{ScanFinished, scanOf, scannerFrom, InBounds};
 ghost use Rattle.writes.specs.Types.{Going, AtWrite};
 ghost use Rattle.writes.specs.Reading.{writeAt};
 use fastpath::skip_packets;
@@ -17,14 +17,14 @@ use scanner::scan::data_step;
 use scanner::scan::from_sync;
 use scanner::scan::header_step;
 
-// The packets from where `start` is, to the write that it was sent for or to their end: the scanner where it stops.
-pub fn scan(s: &[u8], start: Scanner) -> Scanner
-    requires { ⌜ InBounds (length (now s)) start ⌝ }
+// The packets from `from` on, to the write after `skip` others or to their end: the scanner where it stops. It is made here,
+// and not lent, so that a call is short and the first step goes by what is known of it.
+pub fn scan(s: &[u8], from: usize, skip: usize) -> Scanner
     ensures stopped { λ r. ⌜ (r .status ≡ Going → ⊥) ⌝ }
     ensures bounds { λ r. ⌜ InBounds (length (now (s .entry))) r ⌝ }
-    ensures comes { λ r. ⌜ scanOf (now (s .entry)) r ≡ scanOf (now (s .entry)) start ⌝ }
+    ensures comes { λ r. ⌜ scanOf (now (s .entry)) r ≡ scanOf (now (s .entry)) (scannerFrom from skip) ⌝ }
 {
-    let mut w = start;
+    let mut w = from_sync(from, skip);
     loop {
         let status = w.status;
         let Status::Going = status else {
@@ -79,5 +79,5 @@ fn finish_of(w: Scanner) -> Finish
 pub fn finish_from(s: &[u8], from: usize) -> Finish
     ensures { λ r. ⌜ r ≡ finishFrom (now (s .entry)) from ⌝ }
 {
-    finish_of(scan(s, from_sync(from, s.len())))
+    finish_of(scan(s, from, s.len()))
 }

@@ -10,17 +10,13 @@ use Rattle.writes.specs.Types.{WriteFound}
 use Rattle.writes.proofs.cursor.nth_from.Statement.{statement}
 use Rattle.writes.proofs.cursor.nth_from.Tie as tie
 
-came : (c : tie.After-scan) → scannedWrite (scanOf (c .before .before .before .args .s .now) (c .scan .result)) ≡ nthWrite (writesFrom (c .before .before .before .args .s .now) (c .before .before .before .args .from)) (c .before .before .before .args .i)
+came : (c : tie.After-scan) → scannedWrite (scanOf (c .before .before .args .s .now) (c .scan .result)) ≡ nthWrite (writesFrom (c .before .before .args .s .now) (c .before .before .args .from)) (c .before .before .args .i)
 came c =
-    let args = c .before .before .before .args in
-    ap scannedWrite (c .scan .ensures .1 .1 ∙ ap (scanOf (args .s .now)) (c .before .from-sync .ensures)) ∙ nth-scan (args .s .now) (args .from) (args .i)
-
-from-sync-requires : tie.Need-from-sync-requires
-from-sync-requires c κs = search needs
+    let args = c .before .before .args in
+    ap scannedWrite (c .scan .ensures .1 .1) ∙ nth-scan (args .s .now) (args .from) (args .i)
 
 scan-requires : tie.Need-scan-requires
-unfolding InBoundsBy
-scan-requires c κs = rw (c .from-sync .ensures) (omega arith)
+scan-requires c κs = search needs
 
 enum-told : tie.Need-enum-told
 enum-told c = search needs
@@ -28,7 +24,7 @@ enum-told c = search needs
 returns : tie.Need-returns
 unfolding scannedWrite
 returns c =
-    let end = at-end (c .before .before .before .before .args .s .now) (c .before .scan .result) (c .before .scan .ensures .0) (λ e. ⊎-elim (λ z. omega arith) (⊎-elim (λ z. omega arith) (⊎-elim (λ z. omega arith) (⊎-elim (λ z. omega arith) (λ z. omega arith)))) (rw e at (c .match .keys2))) in
+    let end = at-end (c .before .before .before .args .s .now) (c .before .scan .result) (c .before .scan .ensures .0) (λ e. ⊎-elim (λ z. omega arith) (⊎-elim (λ z. omega arith) (⊎-elim (λ z. omega arith) (⊎-elim (λ z. omega arith) (λ z. omega arith)))) (rw e at (c .match .keys2))) in
     rw (end .1) at (came (c .before))
 
 write-at-requires : tie.Need-write-at-requires
@@ -38,10 +34,10 @@ write-at-requires c κs = rw (c .enum-told .given .1) at (c .before .before .sca
 returns-2 : tie.Need-returns-2
 unfolding scannedWrite
 returns-2 c =
-    let reached = at-write (c .before .before .before .before .before .before .args .s .now) (c .before .before .before .scan .result) (c .before .enum-told .given .1) in
+    let reached = at-write (c .before .before .before .before .before .args .s .now) (c .before .before .before .scan .result) (c .before .enum-told .given .1) in
     ap WriteFound (c .write-at .ensures) ∙ rw reached at (came (c .before .before .before))
 
 pub nth-from-spec : {M : Type 1} → statement M
 nth-from-spec =
     tie.close
-    (tie.spec from-sync-requires scan-requires enum-told returns write-at-requires returns-2)
+    (tie.spec scan-requires enum-told returns write-at-requires returns-2)

@@ -4,18 +4,22 @@ use mathlib.Core.Logic.{⊎-elim}
 use native.Mathlib.Omega.{arith}
 use borrow.Author.Needs.{needs}
 use lib.ListN.{length}
-use Rattle.scanner.specs.Scan.{scanOf, InBoundsBy, InBounds, bytesLeft}
+use Rattle.scanner.specs.Scan.{scanOf, scannerFrom, InBoundsBy, InBounds, bytesLeft}
 use Rattle.writes.proofs.reading.scan.Statement.{statement}
 use Rattle.writes.proofs.reading.scan.Tie as tie
 
 abbrev Inv-loop : tie.InvT-loop
-Inv-loop s w₀ w = InBounds (length s) w × (scanOf s w ≡ scanOf s w₀)
+Inv-loop s from skip w₀ w = InBounds (length s) w × (scanOf s w ≡ scanOf s (scannerFrom from skip))
 
 abbrev μ-loop : tie.MeasureT-loop
-μ-loop s w₀ w = bytesLeft (w .status) (length s) (w .at)
+μ-loop s from skip w₀ w = bytesLeft (w .status) (length s) (w .at)
+
+from-sync-requires : tie.Need-from-sync-requires Inv-loop μ-loop
+from-sync-requires c κs = search needs
 
 loop-holds : tie.Need-loop-holds Inv-loop μ-loop
-loop-holds c = (c .before .pre, refl)
+unfolding InBoundsBy
+loop-holds c = rw (c .from-sync .ensures) (omega arith, refl)
 
 enum-told : tie.Need-enum-told Inv-loop μ-loop
 enum-told c = search needs
@@ -62,6 +66,7 @@ scan-spec =
     (tie.spec
     Inv-loop
     μ-loop
+    from-sync-requires
     loop-holds
     enum-told
     returns
