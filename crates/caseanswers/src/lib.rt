@@ -4,7 +4,7 @@
 use caselines::words::NOTHING;
 use caselines::words::REFUSED;
 use caselines::words::STATE;
-use digits::digit::digit_character;
+use digits::digit::characters;
 
 // A word, its letters from the highest byte down.
 pub fn word(word: u64) {
@@ -47,13 +47,10 @@ pub fn result(good: u64, bad: u64, number: u32, place: usize) {
 
 // A byte in hexadecimal.
 fn byte(b: u8) {
-    io::write_all(
-        1,
-        &[
-            digit_character((b / 16) as usize),
-            digit_character((b % 16) as usize),
-        ],
-    );
+    let characters = characters();
+    let high = (b / 16) as usize;
+    let low = (b % 16) as usize;
+    io::write_all(1, &[characters[high], characters[low]]);
 }
 
 // A word of a packet in hexadecimal.

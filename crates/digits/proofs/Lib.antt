@@ -1,4 +1,3 @@
-pub mod CharacterLaws
 pub mod TableLaws
 pub mod DigitLaws
 pub mod PairLaws

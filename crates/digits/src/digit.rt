@@ -1,20 +1,34 @@
 // Capital hexadecimal digits both ways, and pairs of them.
 ghost use mathlib.Core.Path.{_≡_};
-ghost use Prim.Native.Nat.{_+_, _<_, _≤_};
-ghost use lib.ListN.{length, getD};
+ghost use Prim.Native.Nat.{_+_, _≤_};
+ghost use lib.ListN.{length};
 ghost use Rattle.digits.specs.Digit.{digits, digitOf};
 ghost use Rattle.digits.specs.Table.{DigitTable};
 ghost use Rattle.digits.specs.Pairs.{pairAt, twoPairsAt};
 
-// The character of a digit.
-pub fn digit_character(value: usize) -> u8
-    requires { ⌜ value < 16 ⌝ }
-    ensures { λ r. ⌜ r ≡ getD digits value 0 ⌝ }
+// The characters of the digits, by value. Made once for many digits, they cost less than a comparison and a sum for each:
+// of those the compiler makes many more instructions, all digits of a number at once.
+pub fn characters() -> [u8; 16]
+    ensures { λ r. ⌜ r ≡ digits ⌝ }
 {
-    if value < 10 {
-        return (48 + value) as u8;
-    }
-    (55 + value) as u8
+    [
+        b'0',
+        b'1',
+        b'2',
+        b'3',
+        b'4',
+        b'5',
+        b'6',
+        b'7',
+        b'8',
+        b'9',
+        b'A',
+        b'B',
+        b'C',
+        b'D',
+        b'E',
+        b'F',
+    ]
 }
 
 // The value of a character as a digit, 16 where it is none.

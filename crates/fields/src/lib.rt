@@ -7,7 +7,7 @@ ghost use lib.ListN.{length};
 ghost use lib.Seq.{paste};
 ghost use Rattle.fields.specs.Fields.{decimal};
 ghost use Rattle.digits.specs.Digit.{hexadecimal};
-use digits::digit::digit_character;
+use digits::digit::characters;
 
 // Copies a text to `at`.
 pub fn put(out: &mut [u8], at: usize, text: &[u8])
@@ -22,11 +22,12 @@ fn put_hexadecimal(out: &mut [u8], at: usize, count: usize, value: usize)
     requires { ⌜ at + count ≤ length (now out) ⌝ }
     ensures { λ r. ⌜ now (out .exit) ≡ paste (now (out .entry)) at (hexadecimal count value) count ⌝ }
 {
+    let characters = characters();
     let mut left = count;
     let mut rest = value;
     while left > 0 {
         left -= 1;
-        out[at + left] = digit_character(rest % 16);
+        out[at + left] = characters[rest % 16];
         rest /= 16;
     }
 }
