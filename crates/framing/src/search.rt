@@ -27,15 +27,15 @@ fn skip_after(last: u8) -> usize
     }
 }
 
-// Whether no sync word can begin in the 16 bytes from `at` on. The loop is never left early: so it is
-// compiled to compare all of them at once.
+// Whether no sync word can begin in the 32 bytes from `at` on. The loop is never left early: so it is
+// compiled to compare all of them at once. In bytes with many AA in them, longer blocks would cost more than they save.
 fn is_clear(s: &[u8], at: usize) -> bool
-    requires { ⌜ at + 16 ≤ length (now s) ⌝ }
-    ensures { λ r. ⌜ (r ≡ true → (i : ℕ) → i < 16 → getD (now (s .entry)) (at + i) 0 ≡ getD syncBytes 0 0 → ⊥) ⌝ }
+    requires { ⌜ at + 32 ≤ length (now s) ⌝ }
+    ensures { λ r. ⌜ (r ≡ true → (i : ℕ) → i < 32 → getD (now (s .entry)) (at + i) 0 ≡ getD syncBytes 0 0 → ⊥) ⌝ }
 {
     let mut clear = true;
     let mut i = 0;
-    while i < 16 {
+    while i < 32 {
         if s[at + i] == 0xAA {
             clear = false;
         }
@@ -44,17 +44,17 @@ fn is_clear(s: &[u8], at: usize) -> bool
     clear
 }
 
-// The place after as many blocks of 16 bytes as no sync word can begin in.
+// The place after as many blocks of 32 bytes as no sync word can begin in.
 fn past_clear(s: &[u8], from: usize) -> usize
     requires { ⌜ from ≤ length (now s) ⌝ }
     ensures { λ r. ⌜ (from ≤ r) × (r ≤ length (now (s .entry))) × (find (drop r (now (s .entry))) r ≡ find (drop from (now (s .entry))) from) ⌝ }
 {
     let mut at = from;
-    while s.len() - at >= 16 {
+    while s.len() - at >= 32 {
         if !is_clear(s, at) {
             return at;
         }
-        at += 16;
+        at += 32;
     }
     at
 }

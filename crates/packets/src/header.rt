@@ -106,11 +106,15 @@ pub fn is_type1_write(word: u32) -> bool
     register_ok(word / 0x2000 % 32)
 }
 
-// Is this the header of a type 2 write?
+// Is this the header of a type 2 write with data words? A yes is sure here too. That the count is not 0 is asked so that the
+// bounds are of the whole word: by its highest bits alone it would be loaded byte by byte.
 pub fn is_type2_write(word: u32) -> bool
     ensures { λ r. ⌜ (r ≡ true → headOf word ≡ Type2 (word % 134217728)) ⌝ }
 {
-    word / 0x0800_0000 == 0x000A
+    if word <= 0x5000_0000 {
+        return false;
+    }
+    word < 0x5800_0000
 }
 
 pub fn effect_of(register: u32, word: u32) -> Effect

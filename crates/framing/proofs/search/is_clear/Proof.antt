@@ -12,10 +12,10 @@ use Rattle.framing.proofs.search.is_clear.Statement.{statement}
 use Rattle.framing.proofs.search.is_clear.Tie as tie
 
 abbrev Inv-loop : tie.InvT-loop
-Inv-loop s at clear₀ i₀ clear i = (i ≤ 16) × (clear ≡ true → (k : ℕ) → k < i → getD s (at + k) 0 ≡ getD syncBytes 0 0 → ⊥)
+Inv-loop s at clear₀ i₀ clear i = (i ≤ 32) × (clear ≡ true → (k : ℕ) → k < i → getD s (at + k) 0 ≡ getD syncBytes 0 0 → ⊥)
 
 abbrev μ-loop : tie.MeasureT-loop
-μ-loop s at clear₀ i₀ clear i = 16 - i
+μ-loop s at clear₀ i₀ clear i = 32 - i
 
 loop-holds : tie.Need-loop-holds Inv-loop μ-loop
 loop-holds c = (omega arith, λ e k h. absurd (omega arith))

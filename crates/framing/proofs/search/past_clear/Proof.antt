@@ -38,10 +38,10 @@ loop-again : tie.Need-loop-again Inv-loop μ-loop
 loop-again c =
     let s = c .before .before .before .before .before .args .s .now in
     let at = c .before .before .before .loop .at in
-    let on : at + 16 ≤ length s = omega arith in (
+    let on : at + 32 ≤ length s = omega arith in (
       omega arith,
       on,
-      sym (find-past s 16 at on (λ i h. differs-at s (at + i) 0 (omega arith) (rw add-zero (c .before .is-clear .ensures (not-false _ (c .if1 .left)) i h))))
+      sym (find-past s 32 at on (λ i h. differs-at s (at + i) 0 (omega arith) (rw add-zero (c .before .is-clear .ensures (not-false _ (c .if1 .left)) i h))))
           ∙ c .before .before .before .loop .inv .2,
     )
 
