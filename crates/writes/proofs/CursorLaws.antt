@@ -8,8 +8,8 @@ use lib.ListN.{getD, drop, take}
 use lib.Seq.{take-nil}
 use Rattle.framing.specs.Words.{words}
 use Rattle.packets.specs.Header.{headOf, effectOf}
-use Rattle.packets.specs.Trace.{other, Mode, header, payload, modeOf, afterHeader, Trace, wrote, desync, iprog, faulty, short, trace, listOf, nthWrite}
-use Rattle.writes.specs.Cursor.{traceAt, remainingWrites, afterWrite, firstOf, stepOf, writesAfterStep, nthStep}
+use Rattle.packets.specs.Trace.{other, Mode, header, payload, modeOf, afterHeader, trace, listOf, nthWrite}
+use Rattle.writes.specs.Cursor.{remainingWrites, afterWrite, firstOf, stepOf, writesAfterStep, nthStep}
 use Rattle.writes.specs.Theorems.{stepWrite}
 use Rattle.writes.specs.Types.{Effect, GoesOn, Desync, EffectIprog, Write, Cursor, CursorStep, Wrote, Done}
 use Rattle.framing.proofs.Laws.{words-cons}
