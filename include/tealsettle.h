@@ -342,10 +342,11 @@ TealsettleBuild tealsettle_build(uint32_t kind, size_t length, size_t update, si
 typedef struct {
     uint32_t number; /* 0, or 1 */
     size_t place;    /* 0 */
-    uint32_t on;     /* 1: the switch word is ON, and the FPGA goes on to the update area; 0: it is any other word, OFF */
+    uint32_t on;     /* 1: the switch word is ON; 0: it is any other word, OFF */
 } TealsettleSwitch;
 
-/* The switch of a chip: the word at 4,092, by which the FPGA chooses. What then loads is what tealsettle_boot says. */
+/* The switch of a chip, by its word at 4,092. On a chip that tealsettle_build made, OFF loads the golden image, and ON the
+ * update of the last run that ordered the switch on, whatever was cut; what any chip loads is what tealsettle_boot says. */
 TEALSETTLE_MUST_USE
 TealsettleSwitch tealsettle_switch(uint32_t kind, const uint8_t *chip, size_t chip_length);
 
@@ -398,11 +399,11 @@ TealsettlePlace tealsettle_update_place(uint32_t kind, const uint8_t *chip, size
  *
  * Where the driver itself fails (a time-out, write protection, a bus error, a short read), the run is abandoned: no reply
  * is given, the state is dropped, and the order is NOT tried again. The update then begins anew, with a start. That is safe
- * at every order: an abandoned run is nothing else than one whose power was cut there. Whatever the failed order has left
- * within its span, the guarantee covers it, and the next run first switches the update off, then writes all of it again. A
- * second try is outside of what is proved, since each order is carried out once, and nothing is gained by it. Nor may a
- * failed read be answered with bytes that were not read: the look would then agree with what nobody has seen. A flash that
- * is still busy with the order that timed out must be idle again, or be switched off and on, before the next start. */
+ * at every order: an abandoned run is nothing else than one whose power was cut there. What the failed order may have left
+ * in its span, as said above, the guarantee covers, and the next run first switches the update off, then writes all of it
+ * again. A second try is outside of what is proved, since each order is carried out once, and nothing is gained by it. Nor
+ * may a failed read be answered with bytes that were not read: the look would then agree with what nobody has seen. A flash
+ * that is still busy with the order that timed out must be idle again, or switched off and on, before the next start. */
 
 /* Where a run is. */
 typedef struct {
