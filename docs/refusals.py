@@ -39,8 +39,11 @@ static inline const char *tealsettle_refusal_words(uint32_t number)
     switch (number) {
 '''
 
-# What is no refusal of the library's calls, but an answer of the loop above them, which is plain C.
-ABANDONED = ('case TEALSETTLE_ABANDONED', "the flash's driver failed or has no function for the order, and the run was abandoned")
+# What are no refusals of the library's calls, but answers of the loop above them, which is plain C.
+UPDATES = (
+    ('case TEALSETTLE_ABANDONED', "the run was abandoned: a function of the flash's driver failed or is missing, or ended it"),
+    ('case TEALSETTLE_OTHER_PLACE', "segment 1 of the chip does not name the update place that was given: nothing is written"),
+)
 
 # A bare number: in a struct or a comparison of the code, or behind the name of a refused answer in a definition.
 BARE = re.compile(r'\bnumber: (?!0\b)\d+|\bnumber [!=]= (?!0\b)\d+|Refused [1-9]\d*')
@@ -101,7 +104,7 @@ def words_text(names):
     told = meanings()
     cases = (case(f'case {c_name(name, number)}', told.get(name, '')) for name, number in names)
     none, unknown = case('case 0', 'neither refused nor stopped'), case('default', 'no refusal or stop has this number')
-    return WORDS_START + none + ''.join(cases) + case(*ABANDONED) + unknown + '    }\n}\n'
+    return WORDS_START + none + ''.join(cases) + ''.join(case(*each) for each in UPDATES) + unknown + '    }\n}\n'
 
 
 PARTS = ((ENUM, enum_text), (WORDS, words_text))

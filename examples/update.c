@@ -20,7 +20,6 @@
 /* The printer's layout. Every run is started with the one that the chip was built with. */
 enum { LENGTH = 32768, UPDATE = 16384, AREA = 16384 };
 
-static int chip;                                    /* the file that stands for the flash */
 static uint8_t text[4 * AREA + 1], image[2 * AREA]; /* an image has fewer bytes than half its text */
 
 static _Noreturn void fail(const char *what, const char *why)
@@ -36,16 +35,16 @@ static _Noreturn void refuse(uint32_t number, size_t place)
     exit(1);
 }
 
-/* ---- The flash: for a real one, replace these three functions. Each says how it went. ---- */
+/* ---- The flash: for a real one, replace these three functions. `context` says which flash, here its file. ---- */
 
 static int flash_read(void *context, size_t address, uint8_t *bytes, size_t length)
 {
-    (void)context; /* a host with more than one flash is told here which */
-    return (int)pread(chip, bytes, length, (off_t)address);
+    const int *chip = context;
+    return (int)pread(*chip, bytes, length, (off_t)address);
 }
 
 /* Piece by piece and in its time (an erase 45 ms), as in a real flash: so a kill leaves a part of an order. */
-static int change(size_t address, const uint8_t *bytes, size_t length)
+static int change(int chip, size_t address, const uint8_t *bytes, size_t length)
 {
     const struct timespec pause = {0, 1400000};
     for (size_t done = 0, piece; done < length; done += piece) {
@@ -59,30 +58,30 @@ static int change(size_t address, const uint8_t *bytes, size_t length)
 
 static int flash_erase(void *context, size_t address, size_t length)
 {
+    const int *chip = context;
     uint8_t erased[TEALSETTLE_SEGMENT];
-    (void)context;
     memset(erased, 0xFF, sizeof erased);
-    return change(address, erased, length);
+    return change(*chip, address, erased, length);
 }
 
 static int flash_program(void *context, size_t address, const uint8_t *bytes, size_t length)
 {
+    const int *chip = context;
     uint8_t page[TEALSETTLE_PAGE];
     if (flash_read(context, address, page, length) != (int)length)
         return -1;
     for (size_t i = 0; i < length; i++)
         page[i] &= bytes[i]; /* a program only clears bits */
-    return change(address, page, length);
+    return change(*chip, address, page, length);
 }
 
 /* ---- The host ---- */
 
 /* Nobody else may write the chip during a run. It is not opened as 0 to 2: with standard output closed, what is printed would
  * be written into the chip. */
-static void open_chip(const char *path)
+static int open_chip(const char *path)
 {
-    int opened = open(path, O_RDWR);
-    chip = opened < 0 ? opened : fcntl(opened, F_DUPFD, 3);
+    int opened = open(path, O_RDWR), chip = opened < 0 ? opened : fcntl(opened, F_DUPFD, 3);
     if (chip < 0)
         fail(path, strerror(errno));
     close(opened);
@@ -90,6 +89,7 @@ static void open_chip(const char *path)
         fail(path, "it has not the length of the chip");
     if (lseek(chip, 0, SEEK_SET) != 0 || lockf(chip, F_TLOCK, 0) != 0)
         fail(path, "another run is under way");
+    return chip;
 }
 
 /* The file is read once: the bytes that are checked are those that are written, and those that looks compare. */
@@ -112,15 +112,15 @@ static int show(void *context, const TealsettleAhead *ahead)
 {
     static const char *const names[] = {"nothing", "erase", "program", "look"};
     (void)context;
-    fprintf(stderr, "order %zu of %zu: %-7s %5zu %4zu%c", ahead->number, ahead->orders, names[ahead->operation],
-            ahead->address, ahead->length, ahead->number < ahead->orders && isatty(STDERR_FILENO) ? '\r' : '\n');
+    fprintf(stderr, "order %zu of %zu: %-7s %5zu %4zu%c", ahead->order, ahead->orders, names[ahead->operation],
+            ahead->address, ahead->length, ahead->order < ahead->orders && isatty(STDERR_FILENO) ? '\r' : '\n');
     return 0;
 }
 
-static int say_boot(void)
+static int say_boot(int chip)
 {
     static uint8_t bytes[LENGTH];
-    if (flash_read(NULL, 0, bytes, LENGTH) != LENGTH)
+    if (flash_read(&chip, 0, bytes, LENGTH) != LENGTH)
         fail("the chip", "it cannot be read");
     TealsettleBoot b = tealsettle_boot(TEALSETTLE_SPI, bytes, LENGTH);
     if (tealsettle_loads(b))
@@ -132,21 +132,29 @@ static int say_boot(void)
     return !tealsettle_loads(b);
 }
 
+/* What a run came to that did not bring its image. */
+static int complain(TealsettleUpdate u)
+{
+    int abandoned = u.number == TEALSETTLE_ABANDONED;
+    fprintf(stderr, "%s %u at %zu: %s; run it again, the printer loads a whole image all the same\n",
+            abandoned ? "abandoned" : "stopped", (unsigned)u.number, u.place, tealsettle_refusal_words(u.number));
+    return abandoned ? 2 : 1;
+}
+
 int main(int count, char **words)
 {
-    const TealsettleFlash flash = {NULL, flash_erase, flash_program, flash_read, show};
     if (count != 3)
         fail("usage", "update CHIP IMAGE.mcs");
     size_t length = read_image(words[2]);
-    open_chip(words[1]);
-    TealsettleUpdate u = tealsettle_update(TEALSETTLE_SPI, LENGTH, UPDATE, AREA, image, length, &flash);
-    if (u.number != 0 && u.order == 0)
+    int chip = open_chip(words[1]);
+    const TealsettleFlash flash = {
+        .kind = TEALSETTLE_SPI, .length = LENGTH, .update = UPDATE, .area = AREA, .context = &chip,
+        .erase = flash_erase, .program = flash_program, .read = flash_read, .progress = show,
+    };
+    TealsettleUpdate u = tealsettle_update(&flash, image, length);
+    if (u.number == 0)
+        return say_boot(chip);
+    if (u.order == 0 && u.number != TEALSETTLE_ABANDONED)
         refuse(u.number, u.place);
-    if (u.number != 0)
-        fprintf(stderr, "%s %u at %zu: %s; run it again, the printer loads a whole image all the same\n",
-                u.number == TEALSETTLE_ABANDONED ? "abandoned" : "stopped", (unsigned)u.number, u.place,
-                tealsettle_refusal_words(u.number));
-    if (u.number == TEALSETTLE_ABANDONED)
-        return 2;
-    return say_boot() || u.number != 0;
+    return complain(u);
 }

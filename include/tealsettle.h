@@ -5,23 +5,23 @@
  *     tealsettle_update     a whole update, over the host's own functions to erase, program and read
  *     tealsettle_boot       what the printer then loads: ask tealsettle_loads of the answer whether it loads at all
  *
- * Whether a chip loads is not `number`: a chip that is stuck is an answer, with number 0 and `stuck` 1. tealsettle_loads
- * says it.
+ * `number` does not say whether a chip loads: a chip that is stuck is an answer, with number 0 and `stuck` 1.
+ * tealsettle_loads says it.
  *
- * Every function takes numbers and byte slices (a pointer, then a length) and returns a plain struct. None asks anything of
- * its numbers and bytes: every input gets an answer or a numbered refusal. All are proved, but for the little that is plain
+ * Every proved function takes numbers and byte slices (a pointer, then a length) and returns a plain struct. None asks
+ * anything of its numbers and bytes: every input gets an answer or a numbered refusal. Not proved is the little that is plain
  * C: the inline functions below, which only hand on what they are given, tealsettle_version, and tealsettle_update, which is
  * a loop over the proved calls (library/update.c).
  *
- * Memory stays the caller's: no function keeps a pointer, allocates, prints or stops the program. A `const` slice is only
- * read. A refusal leaves every lent byte as it was: its number and place are in the struct that is returned. A pointer may be
- * null where its length is 0, and nowhere else. Two slices of one call do not overlap. Lengths are below 2^63.
+ * Memory stays the caller's: no function keeps a pointer, allocates, prints or stops the program. None has memory of its
+ * own, so several threads may call them at once, each on its own chip. A `const` slice is only read. A refusal leaves every
+ * lent byte as it was: its number and place are in the struct that is returned. A slice's pointer may be null where its
+ * length is 0, and only there. Two slices of one call do not overlap. Lengths are below 2^63.
  *
- * In each struct `number` is 0, or the number of a refusal; that of a reply also holds the number of a stop, 10
- * to 12, which is no refusal (`stopped` is 1). `place` is the place of that refusal or stop; of a chip that is
- * stuck, whose number is 0, it is the place where it is stuck. What does not apply is 0: so is every other field
- * beside a refusal, but for the state of a reply, which is the one that was given, and the bytes of an order,
- * which are FF.
+ * In each struct `number` is 0, or the number of a refusal; that of a reply and of an update also holds the number of a stop,
+ * 10 to 12, which is no refusal. `place` is the place of that refusal or stop; of a chip that is stuck, whose number is 0, it
+ * is the place where it is stuck. What does not apply is 0: so is every other field beside a refusal, but for the state of a
+ * reply, which is the one that was given, and the bytes of an order, which are FF.
  *
  * Where an answer depends on the kind of chip, `kind` is the first argument: TEALSETTLE_SPI. Any other
  * number is refused before all else, with 1 at 0, or with 7 at 0 where a run's state is given. (The specification
@@ -36,7 +36,7 @@
 #define TEALSETTLE_H
 
 /* The library is compiled for one kind of machine: elsewhere it could not be linked, or its structs would be others. */
-#if !defined(__x86_64__) || defined(__ILP32__) || defined(_WIN32) || defined(__CYGWIN__)
+#if !defined(__x86_64__) || defined(__ILP32__) || !defined(__ELF__) || defined(_WIN32) || defined(__CYGWIN__)
 #error "libtealsettle.a is for 64-bit little-endian x86-64 hosts with the System V calling convention: see README.md"
 #endif
 
@@ -78,8 +78,10 @@ uint32_t tealsettle_version(void);
 #define TEALSETTLE_SEGMENT 4096u
 #define TEALSETTLE_PAGE 256u
 
-/* The number that tealsettle_update gives a run that it abandoned: the flash's driver failed, or lacks a function. */
+/* Two numbers of tealsettle_update alone. A run that it abandoned: a function of the driver failed or is missing, or its
+ * `progress` ended the run. And a chip whose segment 1 names another update place than the one given: nothing is written. */
 #define TEALSETTLE_ABANDONED 100u
+#define TEALSETTLE_OTHER_PLACE 101u
 
 /* refusals: the numbers of refusals and stops, by name; written by docs/refusals.py */
 enum {
@@ -153,7 +155,9 @@ static inline const char *tealsettle_refusal_words(uint32_t number)
     case TEALSETTLE_REFUSED_NO_ROOM:
         return "what is to be written does not fit into the memory that is given for it";
     case TEALSETTLE_ABANDONED:
-        return "the flash's driver failed or has no function for the order, and the run was abandoned";
+        return "the run was abandoned: a function of the flash's driver failed or is missing, or ended it";
+    case TEALSETTLE_OTHER_PLACE:
+        return "segment 1 of the chip does not name the update place that was given: nothing is written";
     default:
         return "no refusal or stop has this number";
     }
@@ -346,7 +350,8 @@ typedef struct {
 } TealsettleSwitch;
 
 /* The switch of a chip, by its word at 4,092. On a chip that tealsettle_build made, OFF loads the golden image, and ON the
- * update of the last run that ordered the switch on, whatever was cut; what any chip loads is what tealsettle_boot says. */
+ * update of the last run that ordered the switch on, however many power cuts came between; what any chip loads is what
+ * tealsettle_boot says. */
 TEALSETTLE_MUST_USE
 TealsettleSwitch tealsettle_switch(uint32_t kind, const uint8_t *chip, size_t chip_length);
 
@@ -402,8 +407,11 @@ TealsettlePlace tealsettle_update_place(uint32_t kind, const uint8_t *chip, size
  * at every order: an abandoned run is nothing else than one whose power was cut there. What the failed order may have left
  * in its span, as said above, the guarantee covers, and the next run first switches the update off, then writes all of it
  * again. A second try is outside of what is proved, since each order is carried out once, and nothing is gained by it. Nor
- * may a failed read be answered with bytes that were not read: the look would then agree with what nobody has seen. A flash
- * that is still busy with the order that timed out must be idle again, or switched off and on, before the next start. */
+ * may a failed read be answered with bytes that were not read: the look would then agree with what nobody has seen.
+ *
+ * Before the next start the failed order must be over: a flash that is still busy with it is idle again, or was switched off
+ * and on; and where orders go over a link, it is sure that the printer's controller will not carry it out any more, nor any
+ * order twice (number the orders, or reset the controller). */
 
 /* Where a run is. */
 typedef struct {
@@ -504,7 +512,7 @@ TEALSETTLE_MUST_USE
 TealsettleFinished tealsettle_finished(uint32_t kind, size_t length, size_t update, size_t area, size_t image_length,
                                        uint32_t phase, size_t index, uint32_t outcome);
 
-/* The same four calls, and the reply in two, on a state as it is. */
+/* The same calls on a whole state. The reply is two functions: one for done, and one for the bytes read. */
 
 TEALSETTLE_MUST_USE
 static inline TealsettleOrder tealsettle_run_order(uint32_t kind, TealsettleState state, const uint8_t *image,
@@ -545,7 +553,7 @@ static inline TealsettleProgress tealsettle_run_progress(uint32_t kind, Tealsett
 
 /* The order that is carried out next. */
 typedef struct {
-    size_t number;      /* in its run, counted from 1, */
+    size_t order;       /* its number in the run, counted from 1, */
     size_t orders;      /* of so many */
     uint32_t phase;     /* 0 to 6: erase segment 0, look at it, erase the update area, program the image, look at the area,
                          * program the switch word, look at it */
@@ -554,36 +562,44 @@ typedef struct {
     size_t length;
 } TealsettleAhead;
 
-/* A flash: the driver's functions, and the pointer that each is given. They return when the flash is no longer busy, and say
- * how it went; any other number than the one for success abandons the run, and is handed on in TealsettleUpdate. */
+/* A printer's flash: the chip's kind and layout, and the functions of its driver, each of which is given `context`. They
+ * return when the flash is no longer busy, try nothing twice, and say how it went: any answer but the one for success
+ * abandons the run, and is handed on in TealsettleUpdate. They do not throw. */
 typedef struct {
+    uint32_t kind;               /* TEALSETTLE_SPI */
+    size_t length, update, area; /* F, U and A: F and U are those that the chip was built with */
     void *context;
-    /* Sets `length` bytes to FF. 0: done. */
+    /* Sets one segment to FF: `length` is 4,096, and `address` a multiple of it. Answers 0 for done. */
     int (*erase)(void *context, size_t address, size_t length);
-    /* Clears those bits that are 0 in `bytes`. 0: done. */
+    /* Clears those bits that are 0 in `bytes`: 1 to 256 of them, inside one page of 256. Answers 0 for done. */
     int (*program)(void *context, size_t address, const uint8_t *bytes, size_t length);
-    /* Reads into `bytes`. `length` (at most 256): so many were read. Fewer is a short read, and abandons the run. */
+    /* Reads 1 to 256 bytes, from the chip itself and not from a cache. Answers how many it has read: `length` for success,
+     * and NOT 0. Fewer is a short read, and abandons the run. */
     int (*read)(void *context, size_t address, uint8_t *bytes, size_t length);
-    /* Is told of each order before it is carried out. 0: go on; else the run is abandoned there. May be null. */
+    /* Is told of each order before it is carried out. Answers 0 to go on; else the run is abandoned there. May be null. */
     int (*progress)(void *context, const TealsettleAhead *ahead);
 } TealsettleFlash;
 
 /* What an update came to. */
 typedef struct {
-    uint32_t number; /* 0: the image is written, read back and switched on, and the chip loads it; or 1 to 6: refused, and the
-                      * flash was not touched; or 10 to 12: stopped; or TEALSETTLE_ABANDONED */
-    size_t place;    /* of the refusal or stop; of a run that was abandoned, the address of its order */
-    int driver;      /* of a run that was abandoned: what the driver's function returned; 0 where there is no such function */
-    size_t order;    /* the number of the order that was the last, counted from 1; 0 where none was begun */
+    uint32_t number; /* 0: the image is written, read back and switched on, and the chip loads it; or 1 to 6: refused; or 10 to
+                      * 12: stopped; or TEALSETTLE_ABANDONED or TEALSETTLE_OTHER_PLACE */
+    size_t place;    /* of the refusal or stop; of a run that was abandoned, where on the chip; 4,096 for another place */
+    int driver;      /* of a run that was abandoned: what the driver's function answered; 0 where one is missing */
+    size_t order;    /* the number of the order that was the last, counted from 1; 0: none was begun, and the chip is as it
+                      * was */
     size_t orders;   /* how many the run has; 0 where none was begun */
 } TealsettleUpdate;
 
 /* Updates a chip: a run from its start to its end. After a stop, and after a run that was abandoned, call it again, with the
  * same image or another. In between the chip loads, whole, its golden image or the update of the last run that came to order
- * the switch on. */
+ * the switch on. What the guarantee asks of a host and a chip is said above, where a run is.
+ *
+ * Before its first order it reads the beginning of segment 1 (256 bytes at 4,096) and goes on only if that names the update
+ * place of `flash`, as on every chip that tealsettle_build made: an update that is written elsewhere would not load, and could
+ * erase the golden image. */
 TEALSETTLE_MUST_USE
-TealsettleUpdate tealsettle_update(uint32_t kind, size_t length, size_t update, size_t area, const uint8_t *image,
-                                   size_t image_length, const TealsettleFlash *flash);
+TealsettleUpdate tealsettle_update(const TealsettleFlash *flash, const uint8_t *image, size_t image_length);
 
 /* ---- The bench: a run on a chip's bytes ---- */
 

@@ -3,20 +3,18 @@
  * each, and where the driver fails the run is abandoned, which is to the chip as if its power had been cut there. */
 #include "../include/tealsettle.h"
 
+#include <string.h>
+
+enum { SHORTEST_CHIP = 16384 };
+
 /* A run that is under way. */
 typedef struct {
-    uint32_t kind;
+    const TealsettleFlash *flash;
     const uint8_t *image;
     size_t image_length;
-    const TealsettleFlash *flash;
     TealsettleState state;
     TealsettleUpdate result; /* so far: the run goes on while its number is 0 */
 } Run;
-
-static int has_functions(const TealsettleFlash *flash)
-{
-    return flash && flash->erase && flash->program && flash->read;
-}
 
 static void abandon(Run *run, size_t address, int driver)
 {
@@ -25,10 +23,26 @@ static void abandon(Run *run, size_t address, int driver)
     run->result.driver = driver;
 }
 
+/* The update place that segment 1 names is the flash's, or the run ends here. That call reads the beginning of segment 1 and
+ * nothing else of a chip, so it is given the shortest, with that page in it. */
+static void check_place(Run *run)
+{
+    uint8_t chip[SHORTEST_CHIP];
+    memset(chip, 0xFF, sizeof chip);
+    int read = run->flash->read(run->flash->context, TEALSETTLE_SEGMENT, chip + TEALSETTLE_SEGMENT, TEALSETTLE_PAGE);
+    TealsettlePlace named = tealsettle_update_place(run->flash->kind, chip, sizeof chip);
+    if (read != (int)TEALSETTLE_PAGE) {
+        abandon(run, TEALSETTLE_SEGMENT, read);
+    } else if (!named.found || named.update != run->flash->update) {
+        run->result.number = TEALSETTLE_OTHER_PLACE;
+        run->result.place = TEALSETTLE_SEGMENT;
+    }
+}
+
 /* Tells the host which order comes next. Not 0: the host wants the run abandoned. */
 static int tell(Run *run, const TealsettleOrder *order)
 {
-    TealsettleProgress at = tealsettle_run_progress(run->kind, run->state);
+    TealsettleProgress at = tealsettle_run_progress(run->flash->kind, run->state);
     TealsettleAhead ahead = {at.order, at.orders, run->state.phase, order->operation, order->address, order->length};
     run->result.order = at.order;
     run->result.orders = at.orders;
@@ -50,15 +64,17 @@ static void take_reply(Run *run, TealsettleReply reply)
     run->state = reply.state;
 }
 
-/* A look: only bytes that were all read are a reply. */
+/* A look: only bytes that were all read are a reply. They are zeros at first: what a read has not put there does not look
+ * erased, so a driver that never reads is stopped at its first look. */
 static void look(Run *run, const TealsettleOrder *order)
 {
-    uint8_t seen[TEALSETTLE_PAGE];
+    uint8_t seen[TEALSETTLE_PAGE] = {0};
     int read = run->flash->read(run->flash->context, order->address, seen, order->length);
     if (read < 0 || (size_t)read != order->length)
         abandon(run, order->address, read);
     else
-        take_reply(run, tealsettle_run_read(run->kind, run->state, run->image, run->image_length, seen, order->length));
+        take_reply(run, tealsettle_run_read(run->flash->kind, run->state, run->image, run->image_length, seen,
+                                            order->length));
 }
 
 static void erase_or_program(Run *run, const TealsettleOrder *order)
@@ -67,13 +83,13 @@ static void erase_or_program(Run *run, const TealsettleOrder *order)
     if (failed)
         abandon(run, order->address, failed);
     else
-        take_reply(run, tealsettle_run_done(run->kind, run->state, run->image, run->image_length));
+        take_reply(run, tealsettle_run_done(run->flash->kind, run->state, run->image, run->image_length));
 }
 
 /* Carries out the order of the run's state, once. */
 static void carry_out(Run *run)
 {
-    TealsettleOrder order = tealsettle_run_order(run->kind, run->state, run->image, run->image_length);
+    TealsettleOrder order = tealsettle_run_order(run->flash->kind, run->state, run->image, run->image_length);
     int unwanted = tell(run, &order);
     if (unwanted)
         abandon(run, order.address, unwanted);
@@ -83,16 +99,27 @@ static void carry_out(Run *run)
         erase_or_program(run, &order);
 }
 
-/* Each order that is replied to brings the run one further on, so it has at most as many turns as orders. The state is always
- * the one handed back last, and fits its image: no order and no reply is refused. */
-TealsettleUpdate tealsettle_update(uint32_t kind, size_t length, size_t update, size_t area, const uint8_t *image,
-                                   size_t image_length, const TealsettleFlash *flash)
+/* A run on a flash that has all its functions. Each order that is replied to brings it one further on, so it has at most as
+ * many turns as orders. The state is always the one handed back last, and fits its image: no order and no reply is refused. */
+static void run_orders(Run *run)
 {
-    TealsettleStart start = tealsettle_start(kind, length, update, area, image, image_length);
-    Run run = {kind, image, image_length, flash, start.state, {start.number, start.place, 0, 0, 0}};
-    if (start.number == 0 && !has_functions(flash))
+    while (run->result.number == 0 && !tealsettle_run_finished(run->flash->kind, run->state).ended)
+        carry_out(run);
+}
+
+TealsettleUpdate tealsettle_update(const TealsettleFlash *flash, const uint8_t *image, size_t image_length)
+{
+    Run run = {.flash = flash, .image = image, .image_length = image_length};
+    if (!flash || !flash->erase || !flash->program || !flash->read) {
         abandon(&run, 0, 0);
-    while (run.result.number == 0 && !tealsettle_run_finished(kind, run.state).ended)
-        carry_out(&run);
+        return run.result;
+    }
+    TealsettleStart start = tealsettle_start(flash->kind, flash->length, flash->update, flash->area, image, image_length);
+    run.state = start.state;
+    run.result.number = start.number;
+    run.result.place = start.place;
+    if (start.number == 0)
+        check_place(&run);
+    run_orders(&run);
     return run.result;
 }

@@ -74,9 +74,11 @@ int main(void)
     TealsettleBoot boot = tealsettle_boot(TEALSETTLE_SPI, chip, sizeof chip);
     int good = built.number == 0 && number == 0 && orders == 37 && tealsettle_loads(boot) && boot.jumped &&
                count_writes() == boot.writes && tealsettle_switch(TEALSETTLE_SPI, chip, sizeof chip).on && is_one_version();
+    TealsettleListing list = tealsettle_writes(TEALSETTLE_SPI, chip, sizeof chip);
+    good = good && tealsettle_list_next(1, list.cursor, chip, sizeof chip).number == TEALSETTLE_REFUSED_BAD_CHIP_LENGTH;
     memset(chip, 0, sizeof chip);
     boot = tealsettle_boot(TEALSETTLE_SPI, chip, sizeof chip);
-    good = good && boot.number == 0 && !tealsettle_loads(boot);
+    good = good && boot.number == 0 && !tealsettle_loads(boot) && !tealsettle_loads(tealsettle_boot(1, chip, sizeof chip));
     if (!good)
         printf("a host does not get the answers that the header promises\n");
     return !good;

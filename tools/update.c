@@ -13,15 +13,15 @@ static int begin_order(void *context, const TealsettleAhead *ahead)
     flash->phase = ahead->phase;
     if (next_phase && flush_flash(flash) != 0)
         return -1;
-    show_progress(ahead->phase, ahead->number, ahead->orders);
+    show_progress(ahead->phase, ahead->order, ahead->orders);
     return 0;
 }
 
 static int update_flash(Flash *flash, size_t length, size_t place, size_t area, const File *image)
 {
-    const TealsettleFlash driver = {flash, flash_erase, flash_program, flash_read, begin_order};
-    TealsettleUpdate result =
-        tealsettle_update(TEALSETTLE_SPI, length, place, area, image->bytes, image->length, &driver);
+    const TealsettleFlash driver = {TEALSETTLE_SPI, length, place, area, flash, flash_erase, flash_program, flash_read,
+                                    begin_order};
+    TealsettleUpdate result = tealsettle_update(&driver, image->bytes, image->length);
     end_progress();
     if (result.number == TEALSETTLE_ABANDONED)
         trouble(flash->name, joined(flash->why, ": the run has not come to its end; run it again"));

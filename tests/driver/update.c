@@ -11,7 +11,7 @@
 #include <stdlib.h>
 #include <string.h>
 
-enum { LENGTH = 32768, UPDATE = 16384, AREA = 8192, GOLDEN = REFERENCE_GOLDEN, SWITCH = 4092, ERROR = -5 };
+enum { LENGTH = 32768, UPDATE = 16384, AREA = 8192, GOLDEN = REFERENCE_GOLDEN, SWITCH = 4092, WORDS = 20 };
 
 static const uint8_t ON[4] = {0xAA, 0x99, 0x55, 0x66};
 
@@ -25,7 +25,7 @@ typedef enum {
     READ_NONE,   /* of none, */
     READ_MORE,   /* of one more, */
     READ_MOST,   /* and of more than there can be */
-    LIE_IDLE,    /* done, it says, and has done nothing, */
+    LIE_IDLE,    /* all is done, it says, and has done nothing, */
     LIE_HALF,    /* or half, */
     LIE_NOISE,   /* or left whatever an order may leave; a read has one bit wrong */
     FAULTS
@@ -36,14 +36,14 @@ typedef struct {
     const uint8_t *image, *ordered; /* the run's; and that of the last run that ordered the switch on */
     size_t image_length, ordered_length;
     Fault fault;
-    size_t faulty_call, calls; /* counted from 1; so far */
-    size_t wrong_bit;          /* of a read that lies: its place on the chip */
-    int failed, answered;      /* whether it has failed; what it returned last */
-    TealsettleAhead ahead;     /* the order that was told last */
-    ReferenceState state;      /* where the run is, by the reference */
+    size_t faulty_call, calls;     /* counted from 1; so far */
+    int failed, answered;          /* whether it has failed; what it returned last */
+    TealsettleAhead ahead;         /* the order that was told last */
+    uint8_t seen[TEALSETTLE_PAGE]; /* what the last look was shown, zeros where it was shown nothing */
+    ReferenceState state;          /* where the run is, by the reference */
 } Driver;
 
-static long runs, failures, stops;
+static long runs, failures, stops, others;
 static uint8_t golden[64], images[3][AREA];
 static const size_t lengths[3] = {12, 300, AREA};
 
@@ -51,7 +51,7 @@ static _Noreturn void fail(const Driver *d, const char *format, ...)
 {
     va_list rest;
     va_start(rest, format);
-    fprintf(stderr, "driver: fault %d in call %zu, order %zu: ", (int)d->fault, d->faulty_call, d->ahead.number);
+    fprintf(stderr, "driver: fault %d in call %zu, order %zu: ", (int)d->fault, d->faulty_call, d->ahead.order);
     vfprintf(stderr, format, rest);
     fprintf(stderr, "\n");
     va_end(rest);
@@ -123,9 +123,11 @@ static void put_byte(Driver *d, Fault fault, size_t address, uint8_t ordered)
         d->chip[address] = ordered;
 }
 
-static int answer_change(Driver *d, Fault fault)
+/* What a driver answers that has failed: whatever is not 0. */
+static int error_of(Fault fault)
 {
-    return end_call(d, fault != NOTHING && fault <= FAIL_AFTER ? ERROR : 0, 0);
+    static const int errors[] = {[FAIL_BEFORE] = -5, [FAIL_HALF] = 1, [FAIL_AFTER] = INT_MIN};
+    return fault != NOTHING && fault <= FAIL_AFTER ? errors[fault] : 0;
 }
 
 static int erase(void *context, size_t address, size_t length)
@@ -135,7 +137,7 @@ static int erase(void *context, size_t address, size_t length)
     check_told(d, TEALSETTLE_ERASE, address, length);
     for (size_t i = 0; i < part_done(fault, length); i++)
         put_byte(d, fault, address + i, 0xFF);
-    return answer_change(d, fault);
+    return end_call(d, error_of(fault), 0);
 }
 
 static void check_programmed(const Driver *d, const uint8_t *bytes, size_t length)
@@ -155,7 +157,7 @@ static int program(void *context, size_t address, const uint8_t *bytes, size_t l
         d->ordered = d->image, d->ordered_length = d->image_length;
     for (size_t i = 0; i < part_done(fault, length); i++)
         put_byte(d, fault, address + i, d->chip[address + i] & bytes[i]);
-    return answer_change(d, fault);
+    return end_call(d, error_of(fault), 0);
 }
 
 /* How many bytes a read says that it has read. */
@@ -163,7 +165,7 @@ static int told_read(Fault fault, int length)
 {
     switch (fault) {
     case FAIL_BEFORE:
-        return ERROR;
+        return -5;
     case FAIL_HALF:
         return INT_MIN;
     case FAIL_AFTER:
@@ -181,19 +183,25 @@ static int told_read(Fault fault, int length)
     }
 }
 
+/* The first call of all reads the beginning of segment 1, before any order. */
+static void check_look(const Driver *d, size_t address, size_t length)
+{
+    if (d->calls > 1)
+        check_told(d, TEALSETTLE_LOOK, address, length);
+    else if (address != TEALSETTLE_SEGMENT || length != TEALSETTLE_PAGE)
+        fail(d, "the first read is not that of segment 1");
+}
+
 static int read_flash(void *context, size_t address, uint8_t *bytes, size_t length)
 {
     Driver *d = context;
     Fault fault = begin_call(d);
-    check_told(d, TEALSETTLE_LOOK, address, length);
-    memcpy(bytes, d->chip + address, part_done(fault, length));
-    if (fault == LIE_NOISE) {
-        size_t at = some_bits() % length;
-        bytes[at] ^= (uint8_t)(1u << some_bits() % 8);
-        d->wrong_bit = address + at;
-    }
-    if (fault == LIE_IDLE || fault == LIE_HALF) /* no lie that a look could see: the bytes are those that stand there */
-        memcpy(bytes, d->chip + address, length);
+    check_look(d, address, length);
+    memset(d->seen, 0, sizeof d->seen);
+    memcpy(d->seen, d->chip + address, part_done(fault, length));
+    if (fault == LIE_NOISE)
+        d->seen[some_bits() % length] ^= (uint8_t)(1u << some_bits() % 8);
+    memcpy(bytes, d->seen, part_done(fault, length));
     return end_call(d, told_read(fault, (int)length), (int)length);
 }
 
@@ -204,31 +212,32 @@ static int progress(void *context, const TealsettleAhead *ahead)
     ReferenceOrder order;
     size_t number, orders;
     Fault fault = begin_call(d);
-    if (d->calls > 1)
+    if (d->calls > 2)
         reference_advance(&d->state);
     d->ahead = *ahead;
     if (reference_order(&d->state, d->image, d->image_length, &order) != 0 ||
         reference_progress(&d->state, &number, &orders) != 0)
         fail(d, "an order after the end");
-    expect(d, "the order's number", ahead->number, number);
+    expect(d, "the order's number", ahead->order, number);
     expect(d, "the number of orders", ahead->orders, orders);
     expect(d, "the phase", ahead->phase, d->state.phase);
     expect(d, "the operation", ahead->operation, order.operation);
     expect(d, "the address", ahead->address, order.address);
     expect(d, "the length", ahead->length, order.length);
-    return end_call(d, fault == NOTHING ? 0 : (int)fault, 0);
+    return end_call(d, error_of(fault), 0);
 }
 
 /* ---- Runs, and what must be there after them ---- */
 
 static TealsettleUpdate run(Driver *d, const uint8_t *image, size_t image_length)
 {
-    TealsettleFlash flash = {d, erase, program, read_flash, progress};
+    TealsettleFlash flash = {TEALSETTLE_SPI, LENGTH, UPDATE, AREA, d, erase, program, read_flash, progress};
     d->image = image, d->image_length = image_length;
-    d->calls = 0, d->failed = 0, d->wrong_bit = 0;
+    d->calls = 0, d->failed = 0;
+    d->ahead = (TealsettleAhead){.address = TEALSETTLE_SEGMENT}; /* of the read before the first order */
     d->state = (ReferenceState){LENGTH, UPDATE, AREA, image_length, 0, 0, 0};
     runs++;
-    return tealsettle_update(TEALSETTLE_SPI, LENGTH, UPDATE, AREA, image, image_length, &flash);
+    return tealsettle_update(&flash, image, image_length);
 }
 
 /* By the switch word the golden image loads, or the ordered one, and it stands whole. */
@@ -249,13 +258,13 @@ static void check_loads(const Driver *d)
         fail(d, "the image does not stand whole");
 }
 
-/* The first address, from the last look on, whose byte is not the one that must stand there. */
+/* The first address of the last look at which it was shown another byte than must stand there. */
 static size_t first_wrong(const Driver *d)
 {
     uint8_t padded_page[TEALSETTLE_PAGE];
     const uint8_t *expected = reference_expected_bytes(&d->state, d->image, padded_page);
     size_t i = 0;
-    while (i < d->ahead.length && d->chip[d->ahead.address + i] == expected[i])
+    while (i < d->ahead.length && d->seen[i] == expected[i])
         i++;
     return d->ahead.address + i;
 }
@@ -266,9 +275,20 @@ static void check_abandoned(const Driver *d, TealsettleUpdate result)
     expect(d, "the place", result.place, d->ahead.address);
     if (result.driver != d->answered)
         fail(d, "the driver's answer is %d, expected is %d", result.driver, d->answered);
-    expect(d, "the last order", result.order, d->ahead.number);
+    expect(d, "the last order", result.order, d->ahead.order);
     expect(d, "how many orders", result.orders, d->ahead.orders);
     failures++;
+}
+
+/* The words of segment 1, as they were read, are not those of the chip's place. */
+static void check_other_place(const Driver *d, const Driver *before, TealsettleUpdate result)
+{
+    expect(d, "the number", result.number, TEALSETTLE_OTHER_PLACE);
+    expect(d, "the place", result.place, TEALSETTLE_SEGMENT);
+    expect(d, "the other fields", (size_t)result.driver + result.order + result.orders, 0);
+    if (memcmp(d->seen, before->chip + TEALSETTLE_SEGMENT, WORDS) == 0 || memcmp(d->chip, before->chip, LENGTH) != 0)
+        fail(d, "another place, or the chip has changed");
+    others++;
 }
 
 /* A lie is found by the next look at its bytes, or nothing is wrong with them. */
@@ -276,13 +296,15 @@ static void check_lied(const Driver *d, TealsettleUpdate result)
 {
     static const uint32_t numbers[] = {0, 10, 0, 0, 11, 0, 12};
     expect(d, "the driver's answer", (size_t)result.driver, 0);
+    if (d->fault == LIE_IDLE && d->faulty_call == 1)
+        fail(d, "a place is named where nothing was read");
     if (result.number == 0) {
         expect(d, "the last order", result.order, result.orders);
         expect(d, "the switch", tealsettle_switch(TEALSETTLE_SPI, d->chip, LENGTH).on, 1);
         return;
     }
     expect(d, "the stop", result.number, numbers[d->state.phase]);
-    expect(d, "the stop's place", result.place, d->wrong_bit ? d->wrong_bit : first_wrong(d));
+    expect(d, "the stop's place", result.place, first_wrong(d));
     stops++;
 }
 
@@ -295,6 +317,8 @@ static int try_fault(Driver *d, const Driver *before, size_t call, Fault fault, 
     int met = d->calls >= call;
     if (d->failed)
         check_abandoned(d, result);
+    else if (d->calls == 1)
+        check_other_place(d, before, result);
     else
         check_lied(d, result);
     check_loads(d);
@@ -317,37 +341,51 @@ static void try_faults(Driver *d, const Driver *before, const uint8_t *image, si
 static void try_lacking(Driver *d)
 {
     for (int lacking = 0; lacking < 4; lacking++) {
-        TealsettleFlash flash = {d, lacking == 0 ? NULL : erase, lacking == 1 ? NULL : program, lacking == 2 ? NULL : read_flash,
-                                 progress};
-        TealsettleUpdate result = tealsettle_update(TEALSETTLE_SPI, LENGTH, UPDATE, AREA, images[0], lengths[0],
-                                                    lacking == 3 ? NULL : &flash);
+        TealsettleFlash flash = {TEALSETTLE_SPI, LENGTH, UPDATE, AREA, d, lacking == 0 ? NULL : erase,
+                                 lacking == 1 ? NULL : program, lacking == 2 ? NULL : read_flash, progress};
+        TealsettleUpdate result = tealsettle_update(lacking == 3 ? NULL : &flash, images[0], lengths[0]);
         expect(d, "without a function: the number", result.number, TEALSETTLE_ABANDONED);
-        expect(d, "without a function: the orders", result.order + result.orders, 0);
+        expect(d, "without a function: the rest", result.place + (size_t)result.driver + result.order + result.orders, 0);
     }
     expect(d, "without a function: the calls", d->calls, 0);
 }
 
-static void expect_refused(Driver *d, uint32_t number, size_t place, TealsettleUpdate result)
+static void expect_refused(Driver *d, uint32_t number, size_t place, TealsettleFlash flash, const uint8_t *image, size_t length)
 {
+    TealsettleUpdate result = tealsettle_update(&flash, image, length);
     expect(d, "the refusal", result.number, number);
     expect(d, "the refusal's place", result.place, place);
     expect(d, "the refusal's other fields", (size_t)result.driver + result.order + result.orders, 0);
 }
 
-/* What a start refuses, also for a driver that lacks everything: nothing is called. */
+/* What a start refuses: nothing is called. */
 static void try_refusals(Driver *d)
 {
     static const uint8_t jumps[12] = {0xAA, 0x99, 0x55, 0x66, 0x30, 0x00, 0x80, 0x01, 0x00, 0x00, 0x00, 0x0F};
-    const uint8_t *image = images[0];
-    TealsettleFlash flash = {d, erase, program, read_flash, progress};
-    expect_refused(d, 1, 0, tealsettle_update(1, LENGTH, UPDATE, AREA, image, 12, &flash));
-    expect_refused(d, 1, 0, tealsettle_update(TEALSETTLE_SPI, 12288, UPDATE, AREA, image, 12, NULL));
-    expect_refused(d, 2, 0, tealsettle_update(TEALSETTLE_SPI, LENGTH, 8192, AREA, image, 12, &flash));
-    expect_refused(d, 3, 0, tealsettle_update(TEALSETTLE_SPI, LENGTH, UPDATE, 0, image, 12, &flash));
-    expect_refused(d, 4, 0, tealsettle_update(TEALSETTLE_SPI, LENGTH, UPDATE, AREA, NULL, 0, &flash));
-    expect_refused(d, 5, 11, tealsettle_update(TEALSETTLE_SPI, LENGTH, UPDATE, AREA, image, 11, NULL));
-    expect_refused(d, 6, 8, tealsettle_update(TEALSETTLE_SPI, LENGTH, UPDATE, AREA, jumps, 12, &flash));
+    TealsettleFlash good = {TEALSETTLE_SPI, LENGTH, UPDATE, AREA, d, erase, program, read_flash, progress};
+    TealsettleFlash kind = good, length = good, update = good, area = good;
+    kind.kind = 1, length.length = 12288, update.update = 8192, area.area = 0;
+    expect_refused(d, 1, 0, kind, images[0], 12);
+    expect_refused(d, 1, 0, length, images[0], 12);
+    expect_refused(d, 2, 0, update, images[0], 12);
+    expect_refused(d, 3, 0, area, images[0], 12);
+    expect_refused(d, 4, 0, good, NULL, 0);
+    expect_refused(d, 5, 11, good, images[0], 11);
+    expect_refused(d, 6, 8, good, jumps, 12);
     expect(d, "after refusals: the calls", d->calls, 0);
+}
+
+/* An update place that the chip does not name, though a run could be started with it: nothing is written. */
+static void try_other_place(Driver *d, const Driver *before)
+{
+    *d = *before;
+    d->calls = 0;
+    TealsettleFlash flash = {TEALSETTLE_SPI, LENGTH, UPDATE - 4096, AREA, d, erase, program, read_flash, progress};
+    TealsettleUpdate result = tealsettle_update(&flash, images[0], lengths[0]);
+    expect(d, "another place: the number", result.number, TEALSETTLE_OTHER_PLACE);
+    expect(d, "another place: the calls", d->calls, 1);
+    if (memcmp(d->chip, before->chip, LENGTH) != 0)
+        fail(d, "another place: the chip has changed");
 }
 
 /* ---- A driver that only does its work, and a run that tells nobody of its orders ---- */
@@ -375,9 +413,9 @@ static int plain_read(void *context, size_t address, uint8_t *bytes, size_t leng
 static void try_silent(Driver *d, const Driver *before)
 {
     static uint8_t chip[LENGTH];
-    TealsettleFlash flash = {chip, plain_erase, plain_program, plain_read, NULL};
+    TealsettleFlash flash = {TEALSETTLE_SPI, LENGTH, UPDATE, AREA, chip, plain_erase, plain_program, plain_read, NULL};
     memcpy(chip, before->chip, LENGTH);
-    TealsettleUpdate silent = tealsettle_update(TEALSETTLE_SPI, LENGTH, UPDATE, AREA, images[1], lengths[1], &flash);
+    TealsettleUpdate silent = tealsettle_update(&flash, images[1], lengths[1]);
     *d = *before;
     TealsettleUpdate told = run(d, images[1], lengths[1]);
     expect(d, "an update that tells nobody", silent.number, told.number);
@@ -420,10 +458,11 @@ int main(void)
         expect(&before, "an update", run(&before, images[i], lengths[i]).number, 0);
         check_loads(&before);
     }
+    try_other_place(&d, &before);
     try_silent(&d, &before);
     for (int i = 0; i < 3; i++)
         try_faults(&d, &before, images[i], lengths[i]);
-    printf("driver: %ld runs, of which %ld were abandoned and %ld stopped: golden or the ordered image loaded each time, whole\n",
-           runs, failures, stops);
+    printf("driver: %ld runs, of which %ld were abandoned, %ld stopped and %ld not begun: golden or the ordered image loaded each time, whole\n",
+           runs, failures, stops, others);
     return 0;
 }

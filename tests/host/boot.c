@@ -57,7 +57,9 @@ static int try_boot(const uint8_t *chip, size_t length)
     return differs("boot: number", r.number, m.number) || differs("boot: place", r.place, m.place) ||
            differs("boot: stuck", r.stuck, (size_t)m.stuck) || differs("boot: jumped", r.jumped, (size_t)m.jumped) ||
            differs("boot: sync", r.sync, m.sync) || differs("boot: end", r.end, m.end) ||
-           differs("boot: writes", r.writes, m.writes) || try_writes(kind, chip, length, &m);
+           differs("boot: writes", r.writes, m.writes) ||
+           differs("boot: whether it loads", (size_t)tealsettle_loads(r), m.number == 0 && !m.stuck) ||
+           try_writes(kind, chip, length, &m);
 }
 
 /* The builder. */

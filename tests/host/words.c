@@ -1,5 +1,5 @@
-/* tealsettle_refusal_words: every refusal and stop has words of its own, and so have 0, a run that was abandoned, and numbers
- * that are none. */
+/* tealsettle_refusal_words: every refusal and stop has words of its own, and so have 0, the numbers of tealsettle_update alone,
+ * and numbers that are none. */
 #include "../../include/tealsettle.h"
 
 #include <stdio.h>
@@ -22,10 +22,10 @@ int main(void)
     for (uint32_t number = 0; number < NUMBERS; number++)
         if (wrong(number))
             return printf("%u has no words of its own\n", (unsigned)number), 1;
-    if (wrong(TEALSETTLE_ABANDONED))
-        return printf("a run that was abandoned has no words of its own\n"), 1;
+    if (wrong(TEALSETTLE_ABANDONED) || wrong(TEALSETTLE_OTHER_PLACE))
+        return printf("a number of tealsettle_update has no words of its own\n"), 1;
     if (strcmp(tealsettle_refusal_words(UINT32_MAX), tealsettle_refusal_words(NUMBERS)) != 0)
         return printf("numbers that are none have different words\n"), 1;
-    printf("host test: %d numbers, each with words of its own\n", NUMBERS + 1);
+    printf("host test: %d numbers, each with words of its own\n", NUMBERS + 2);
     return 0;
 }
