@@ -23,8 +23,8 @@ static void abandon(Run *run, size_t address, int driver)
     run->result.driver = driver;
 }
 
-/* The update place that segment 1 names is the flash's, or the run ends here. That call reads the beginning of segment 1 and
- * nothing else of a chip, so it is given the shortest, with that page in it. */
+/* The update place that segment 1 names is the flash's, or the run ends here. tealsettle_update_place reads the beginning of
+ * segment 1 and nothing else of a chip, so it is given the shortest chip, with that page in it. */
 static void check_place(Run *run)
 {
     uint8_t chip[SHORTEST_CHIP];

@@ -1,7 +1,6 @@
 -- `progress_running` meets its contract.
 use mathlib.Core.Path.{refl}
 use native.Mathlib.Omega.{arith}
-use borrow.Author.Needs.{needs}
 use Rattle.starts.proofs.ProgressLaws.{countable}
 use Rattle.starts.proofs.progress_running.Statement.{statement}
 use Rattle.starts.proofs.progress_running.Tie as tie
