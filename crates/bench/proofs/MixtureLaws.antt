@@ -1,22 +1,21 @@
 -- Question 10's rule for the bits of segment 0: it goes byte by byte, and says what a chip's life says of a cut order.
-use Prim.Native.Nat.{ℕ, zero, suc, _+_, _/_, _%_, _*_, _^_, _<_, _≤_, min}
+use Prim.Native.Nat.{ℕ, zero, suc, _+_, _<_, _≤_}
 use mathlib.Core.Path.{_≡_, refl, sym, ap, ap₂, _∙_}
 use mathlib.Core.Bool.{Bool, true, false, _&&_}
-use mathlib.Core.Logic.{_⊎_, inl, inr, ⊎-elim}
+use mathlib.Core.Logic.{⊎-elim}
 use mathlib.Core.List.{List, [], _∷_}
 use native.Mathlib.Omega.{arith}
-use native.Mathlib.Nat.{zero-div}
 use borrow.Author.Tests.{eq-eqb, eqb-true, leb-true, le-leb, lt-leb, lt-ltb, le-ltb}
-use lib.Bits.{bitAnd, bitXor, differ, and-comm, and-lt, xor-lt, xor-shr, xor-step}
+use lib.Bits.{bitAnd, bitXor, and-comm}
 use lib.Dec.{eqb}
 use lib.ListN.{length, getD, take, drop}
 use lib.Seq.{length-take-le, getD-take, drop-cons}
 use Rattle.base.specs.Question.{ask}
 use Rattle.base.proofs.Laws.{asked, both-true, false-true, below-or-not}
 use Rattle.kind.specs.Layout.{segment}
-use Rattle.flash.specs.Flash.{span, bit, BitwiseMix}
+use Rattle.flash.specs.Flash.{span, BitwiseMix}
 use Rattle.chip.specs.Cut.{MayLeave}
-use Rattle.flash.proofs.Laws.{span-length, same-bits, bit-most, bit-and}
+use Rattle.flash.proofs.Laws.{span-length, each-bit, no-bit-differs}
 use Rattle.effects.specs.Effects.{Bytes}
 use Rattle.bench.specs.Bench.{mixture, spanAllows}
 
@@ -59,56 +58,11 @@ bytes-mixture (a ∷ old) (b ∷ ordered) [] p q each = refl
 bytes-mixture (a ∷ old) (b ∷ ordered) (c ∷ new) p q each =
     rw (each 0 (omega arith)) (bytes-mixture old ordered new (omega arith) (omega arith) (λ i h. each (suc i) (omega arith)))
 
--- bit n of a difference
-bit-xor : (n a b : ℕ) → bit n (bitXor a b) ≡ differ (bit n a) (bit n b)
-bit-xor n a b =
-    let x = a / 2 ^ n in
-    let y = b / 2 ^ n in
-    let s : bitXor x y ≡ bitXor (x / 2) (y / 2) * 2 + differ (x % 2) (y % 2) = xor-step x y in
-    let d : differ (x % 2) (y % 2) ≤ 1 = digits-differ (x % 2) (y % 2) (omega arith) (omega arith) in
-    let e : bitXor x y % 2 ≡ differ (x % 2) (y % 2) = omega arith in
-    ap (λ (q : ℕ). q % 2) (xor-shr a b n) ∙ e
-  where
-    digits-differ : (x y : ℕ) → x ≤ 1 → y ≤ 1 → differ x y ≤ 1
-    digits-differ zero y p q = q
-    digits-differ (suc x) zero p q = p
-    digits-differ (suc zero) (suc y) p q = omega arith
-    digits-differ (suc (suc x)) (suc y) p q = absurd (omega arith)
-
--- A digit that differs from not both others is one of them,
-equal-one : (x y z : ℕ) → x ≤ 1 → y ≤ 1 → z ≤ 1 → min (differ x y) (differ x z) ≡ 0 → (x ≡ y) ⊎ (x ≡ z)
-equal-one zero zero z p q r e = inl refl
-equal-one zero (suc y) zero p q r e = inr refl
-equal-one zero (suc y) (suc z) p q r e = absurd (omega arith)
-equal-one (suc zero) zero zero p q r e = absurd (omega arith)
-equal-one (suc zero) zero (suc z) p q r e = inr (omega arith)
-equal-one (suc zero) (suc y) z p q r e = inl (omega arith)
-equal-one (suc (suc x)) y z p q r e = absurd (omega arith)
-
--- and the other way round.
-differ-self : (x : ℕ) → differ x x ≡ 0
-differ-self zero = refl
-differ-self (suc x) = differ-self x
-
-one-equal : (x y z : ℕ) → (x ≡ y) ⊎ (x ≡ z) → min (differ x y) (differ x z) ≡ 0
-one-equal x y z =
-    ⊎-elim
-    (λ e. let d : differ x y ≡ 0 = rw (sym e) (differ-self x) in omega arith)
-    (λ e. let d : differ x z ≡ 0 = rw (sym e) (differ-self x) in omega arith)
-
--- bit n of what a byte must not have
-differing : (n old ordered new : ℕ) → bit n (bitAnd (bitXor new old) (bitXor new ordered)) ≡ min (differ (bit n new) (bit n old)) (differ (bit n new) (bit n ordered))
-differing n old ordered new = bit-and n (bitXor new old) (bitXor new ordered) ∙ ap₂ (λ (x y : ℕ). min x y) (bit-xor n new old) (bit-xor n new ordered)
-
-zero-bit : (n : ℕ) → bit n 0 ≡ 0
-zero-bit n = ap (λ (q : ℕ). q % 2) (zero-div (2 ^ n))
-
 -- Bytes that question 10 allows are those that a life allows a cut order to leave in segment 0,
 pub mixture-mixed : (old ordered new : List ℕ) → length old ≡ length new → length ordered ≡ length new → mixture old ordered new ≡ true → BitwiseMix old ordered new
 mixture-mixed old ordered new p q e i h n m =
     let none : bitAnd (bitXor (getD new i 0) (getD old i 0)) (bitXor (getD new i 0) (getD ordered i 0)) ≡ 0 = eqb-true _ _ (mixture-bytes old ordered new p q e i h) in
-    equal-one (bit n (getD new i 0)) (bit n (getD old i 0)) (bit n (getD ordered i 0)) (bit-most n (getD new i 0)) (bit-most n (getD old i 0)) (bit-most n (getD ordered i 0))
-    (sym (differing n (getD old i 0) (getD ordered i 0) (getD new i 0)) ∙ ap (bit n) none ∙ zero-bit n)
+    each-bit (getD old i 0) (getD ordered i 0) (getD new i 0) none n
 
 -- and those only.
 pub mixed-mixture : (old ordered new : List ℕ) → length old ≡ length new → length ordered ≡ length new →
@@ -118,9 +72,7 @@ mixed-mixture old ordered new p q bytes mixed = bytes-mixture old ordered new p 
     none : (i : ℕ) → i < length new → bitAnd (bitXor (getD new i 0) (getD old i 0)) (bitXor (getD new i 0) (getD ordered i 0)) ≡ 0
     none i h =
         let b = bytes i h in
-        same-bits 8 (bitAnd (bitXor (getD new i 0) (getD old i 0)) (bitXor (getD new i 0) (getD ordered i 0))) 0
-        (and-lt 8 _ _ (xor-lt 8 _ _ (b .2) (b .0)) (xor-lt 8 _ _ (b .2) (b .1))) (omega arith)
-        (λ n m. differing n (getD old i 0) (getD ordered i 0) (getD new i 0) ∙ one-equal (bit n (getD new i 0)) (bit n (getD old i 0)) (bit n (getD ordered i 0)) (mixed i h n m) ∙ sym (zero-bit n))
+        no-bit-differs 8 (getD old i 0) (getD ordered i 0) (getD new i 0) (b .0) (b .1) (b .2) (mixed i h)
 
 -- Question 10 for a span: too few bytes; outside segment 0; in it.
 module _ (place : ℕ) (old ordered damage : List ℕ) where

@@ -3,6 +3,7 @@ use mathlib.Core.Path.{refl}
 use mathlib.Core.List.{_++_}
 use native.Mathlib.Omega.{arith}
 use borrow.Author.Tests.{le-leb}
+use lib.Count.{onesIn}
 use lib.ListN.{length, replicate}
 use Rattle.framing.specs.Search.{beginsWith, find}
 use Rattle.framing.specs.Words.{words}
@@ -14,6 +15,7 @@ use Rattle.configreader.specs.Configreader.{readAt, searchFrom, jump}
 use Rattle.kind.specs.Layout.{chipLengthAllowed, imageLengthAllowed, updatePlaceAllowed, updateLengthAllowed, askLayout, layoutNumbers, layoutAnswer}
 use Rattle.bootreader.specs.Image.{imageNumbers, aloneCase, imageAnswer}
 use Rattle.chip.specs.Switch.{switchNumbers, switchCase, switchAnswer}
+use Rattle.outcomes.proofs.Laws.{program-computed, erase-computed}
 use Rattle.orders.specs.Table.{byPhase, count, countBefore as runBefore}
 use Rattle.orders.specs.Orders.{inPhase, ordersBefore}
 use Rattle.starts.specs.Starts.{totalNumbers, totalAnswer}
@@ -23,42 +25,30 @@ use Rattle.mcs.specs.Reading.{prepend, linesOf, follows, isEmpty, readLines}
 use Rattle.mcs.specs.Reader.{readNumbers, answerOf, heldOutput}
 use Rattle.cases.specs.Cases.{All, jumping, rows}
 
+infixr 4 _also_
+-- one row, and the rows after it
+abbrev _also_ : {A B : Type 0} → A → B → A × B
+row also rows = (row, rows)
+
 table : All rows
-unfolding All rows imageNumbers readNumbers layoutNumbers switchNumbers totalNumbers answerOf heldOutput frontFilled readLines byParsed follows parsed bySpelled typed byType lineSpells spelledBy onto isEnding isEmpty linesOf prepend digitOf placeIn digits byteSum imageAnswer imageLengthAllowed aloneCase ask readAt searchFrom jump find beginsWith words trace finish afterHeader modeOf headOf type1Of type2Of registerOk effectOf layoutAnswer askLayout chipLengthAllowed updatePlaceAllowed updateLengthAllowed switchAnswer switchCase totalAnswer runBefore count byPhase ordersBefore inPhase
-table = (
-  λ rest h. refl,
-  (
-    λ rest h. refl,
-    (
-      λ rest h. rw (le-leb 1 (length (jumping ++ rest)) (omega arith), le-leb (length (jumping ++ rest)) 16777216 (omega arith)) refl,
-      (
-        λ rest h. refl,
-        (
-          λ rest h. refl,
-          (
-            λ rest h. refl,
-            (
-              λ rest h. refl,
-              (
-                λ rest h. refl,
-                (
-                  λ rest h. refl,
-                  (
-                    λ rest h. refl,
-                    (
-                      λ rest h. refl,
-                      (
-                        λ rest h. rw (le-leb 12 (length (replicate 12 0 ++ rest)) (omega arith)) refl,
-                        tt,
-                      ),
-                    ),
-                  ),
-                ),
-              ),
-            ),
-          ),
-        ),
-      ),
-    ),
-  ),
-)
+unfolding All rows imageNumbers readNumbers layoutNumbers switchNumbers totalNumbers answerOf heldOutput frontFilled readLines byParsed follows parsed bySpelled typed byType lineSpells spelledBy onto isEnding isEmpty linesOf prepend digitOf placeIn digits byteSum imageAnswer imageLengthAllowed aloneCase ask readAt searchFrom jump find beginsWith words trace finish afterHeader modeOf headOf type1Of type2Of registerOk effectOf layoutAnswer askLayout chipLengthAllowed updatePlaceAllowed updateLengthAllowed switchAnswer switchCase totalAnswer runBefore count byPhase ordersBefore inPhase onesIn
+table =
+    (λ rest h. refl)
+    also (λ rest h. refl)
+    also (λ rest h. rw (le-leb 1 (length (jumping ++ rest)) (omega arith), le-leb (length (jumping ++ rest)) 16777216 (omega arith)) refl)
+    also (λ rest h. refl)
+    also (λ rest h. refl)
+    also (λ rest h. refl)
+    also (λ rest h. refl)
+    also (λ rest h. refl)
+    also (λ rest h. refl)
+    also (λ rest h. refl)
+    also (λ rest h. refl)
+    also (λ rest h. rw (le-leb 12 (length (replicate 12 0 ++ rest)) (omega arith)) refl)
+    also (λ rest h. rw (program-computed 0xFFFFFFFF 0xAA995566 (omega arith) (omega arith)) refl)
+    also (λ rest h. rw (program-computed 0x7FFFFFFF 0xAA995566 (omega arith) (omega arith)) refl)
+    also (λ rest h. rw (program-computed 0xAA995566 0xAA995566 (omega arith) (omega arith)) refl)
+    also (λ rest h. rw (program-computed 0 0xAA995566 (omega arith) (omega arith)) refl)
+    also (λ rest h. rw (erase-computed 0 (omega arith)) refl)
+    also (λ rest h. rw (erase-computed 0xFFFFFFFF (omega arith)) refl)
+    also tt

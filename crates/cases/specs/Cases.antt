@@ -1,4 +1,4 @@
--- Document 01's starred proof cases: the rows of one table, under one proposition.
+-- Document 01's starred proof cases, and cases of document 02's requests: the rows of one table, under one proposition.
 use Prim.Native.Nat.{ℕ, _≤_}
 use mathlib.Core.Path.{_≡_}
 use mathlib.Core.List.{List, [], _∷_, _++_}
@@ -9,6 +9,7 @@ use Rattle.flash.specs.Flash.{erased}
 use Rattle.kind.specs.Layout.{layoutOf, layoutNumbers, layoutAnswer}
 use Rattle.chip.specs.Switch.{switchNumbers, switchAnswer}
 use Rattle.kind.specs.Spi.{spi}
+use Rattle.outcomes.specs.Outcomes.{programCounts, eraseCounts}
 use Rattle.orders.specs.Orders.{orders as runOrders}
 use Rattle.starts.specs.Starts.{totalNumbers, totalAnswer}
 use Rattle.mcs.specs.Reader.{readNumbers, readAnswer, readOutput}
@@ -31,6 +32,9 @@ allows = (result [], [])
 
 abbrev pub isOff : Says
 isOff = (result (0 ∷ []), [])
+
+abbrev pub counts : ℕ → ℕ → Says
+counts words on = (result (words ∷ on ∷ []), [])
 
 abbrev pub orders : ℕ → ℕ → Says
 orders total listed = (result (total ∷ []), listed ∷ [])
@@ -77,6 +81,13 @@ layout length updatePlace updateLength expected = record { asks = λ rest. alone
 abbrev pub switch : List ℕ → Says → Row
 switch word expected = record { asks = λ rest. alone (switchNumbers (switchAnswer spi (erased 4092 ++ (word ++ erased 12288)))); room = 0; says = expected }
 
+-- a program of a word over an old one, and an erase of an old one, cut inside: how many words they can leave, and how many of those are ON
+abbrev pub programCut : ℕ → ℕ → Says → Row
+programCut old ordered expected = record { asks = λ rest. counts (programCounts spi old ordered .words) (programCounts spi old ordered .on); room = 0; says = expected }
+
+abbrev pub eraseCut : ℕ → Says → Row
+eraseCut old expected = record { asks = λ rest. counts (eraseCounts spi old .words) (eraseCounts spi old .on); room = 0; says = expected }
+
 -- an image of n bytes and A, on a chip of 32,768 bytes with its update area at 12,288
 abbrev pub run : ℕ → ℕ → Says → Row
 run n updateLength expected = record {
@@ -121,4 +132,16 @@ rows =
     ∷ switch (0xAA ∷ 0x99 ∷ 0x55 ∷ 0x67 ∷ []) isOff
     -- the line and the end line: the 12-byte image
     ∷ text twelveText (reads (0xAA ∷ 0x99 ∷ 0x55 ∷ 0x66 ∷ 0x30 ∷ 0x00 ∷ 0x80 ∷ 0x01 ∷ 0x00 ∷ 0x00 ∷ 0x00 ∷ 0x0D ∷ []))
+    -- document 02, M-110: from erased to ON 65,536 words, one of them ON
+    ∷ programCut 0xFFFFFFFF 0xAA995566 (counts 65536 1)
+    -- the old word lacks a bit that ON has, and that cannot change: as many words, none of them ON
+    ∷ programCut 0x7FFFFFFF 0xAA995566 (counts 65536 0)
+    -- ON over ON: that word
+    ∷ programCut 0xAA995566 0xAA995566 (counts 1 1)
+    -- a 1 ordered over an old 0: it remains 0
+    ∷ programCut 0x00000000 0xAA995566 (counts 1 0)
+    -- an erase of 00000000: every word
+    ∷ eraseCut 0x00000000 (counts 4294967296 1)
+    -- an erase of FFFFFFFF: that word
+    ∷ eraseCut 0xFFFFFFFF (counts 1 0)
     ∷ []

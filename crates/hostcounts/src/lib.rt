@@ -1,11 +1,17 @@
 // Functions that a printer's C host calls on numbers alone (include/tealsettle.h), in a library of their own beside
-// crates `host` and `hostfiles`: how many orders a run has, and the number of one of them.
+// crates `host` and `hostfiles`: how many orders a run has, and the number of one of them; how many switch words a cut can
+// leave.
 ghost use mathlib.Core.Path.{_≡_};
 ghost use Rattle.kind.specs.Layout.{layoutOf};
+ghost use Rattle.kind.specs.Spi.{spi};
+ghost use Rattle.outcomes.specs.Outcomes.{programCounts, eraseCounts};
 ghost use Rattle.runresults.specs.Run.{stateOf};
 ghost use Rattle.hostcounts.specs.Hostcounts.{totalCall, progressCall};
 use base::refusal;
 use kind::spi::Spi;
+use outcomes::TealsettleCounts;
+use outcomes::after_erase;
+use outcomes::after_program;
 use runresults::counts::TealsettleProgress;
 use runresults::counts::TealsettleTotal;
 use runresults::counts::progress_result;
@@ -59,4 +65,20 @@ pub extern "C" fn tealsettle_progress(
         answer = progress(state_of(length, update, area, n, phase, index, outcome));
     }
     progress_result(answer)
+}
+
+// How many switch words a program can leave, cut inside or called done, and how many of them are ON.
+#[no_mangle]
+pub extern "C" fn tealsettle_after_program(old_word: u32, ordered_word: u32) -> TealsettleCounts
+    ensures { λ r. ⌜ r ≡ programCounts spi «old_word» «ordered_word» ⌝ }
+{
+    after_program(old_word, ordered_word)
+}
+
+// How many switch words an erase can leave, cut inside or called done, and how many of them are ON.
+#[no_mangle]
+pub extern "C" fn tealsettle_after_erase(old_word: u32) -> TealsettleCounts
+    ensures { λ r. ⌜ r ≡ eraseCounts spi «old_word» ⌝ }
+{
+    after_erase(old_word)
 }

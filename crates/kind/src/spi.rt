@@ -18,12 +18,15 @@ impl Spi {
     pub const PAGE: usize = 256;
     // An erase takes a segment.
     pub const SEGMENT: usize = 4_096;
-    // The switch word, of four bytes, is the last of segment 0. ON, here as its bytes, chooses the update image.
+    // The switch word, of four bytes, is the last of segment 0. ON, here as its bytes and as a number, chooses the update
+    // image.
     pub const SWITCH: usize = 4_092;
 
     pub const SWITCH_LENGTH: usize = 4;
 
     pub const ON: [u8; 4] = [0xAA, 0x99, 0x55, 0x66];
+
+    pub const ON_WORD: u32 = 0xAA99_5566;
     // The golden image's place, after segments 0 and 1.
     pub const GOLDEN: usize = 8_192;
 

@@ -1,0 +1,4 @@
+pub mod ListLaws
+pub mod CountLaws
+pub mod ExactLaws
+pub mod Laws
