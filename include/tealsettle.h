@@ -18,14 +18,15 @@
  * lent byte as it was: its number and place are in the struct that is returned. A slice's pointer may be null where its
  * length is 0, and only there. Two slices of one call do not overlap. Lengths are below 2^63.
  *
- * In each struct `number` is 0, or the number of a refusal; that of a reply and of an update also holds the number of a stop,
- * 10 to 12, which is no refusal. `place` is the place of that refusal or stop; of a chip that is stuck, whose number is 0, it
- * is the place where it is stuck. What does not apply is 0: so is every other field beside a refusal, but for the state of a
- * reply, which is the one that was given, and the bytes of an order, which are FF.
+ * `number`, in each struct that has one, is 0 or the number of a refusal; that of a reply and of an update also holds the
+ * number of a stop, 10 to 12, which is no refusal. `place` is the place of that refusal or stop; of a chip that is stuck,
+ * whose number is 0, it is the place where it is stuck. What does not apply is 0: so is every other field beside a refusal,
+ * but for the state of a reply, which is the one that was given, and the bytes of an order, which are FF.
  *
  * Where an answer depends on the kind of chip, `kind` is the first argument: TEALSETTLE_SPI. Any other
  * number is refused before all else, with 1 at 0, or with 7 at 0 where a run's state is given. (The specification
- * has no such question yet: docs/DECISIONS.md, 81.)
+ * has no such question yet: docs/DECISIONS.md, 81.) The two calls that count switch words take none: their ON is that of an
+ * SPI chip.
  *
  * A layout is three numbers: `length` (F), the chip's length; `update` (U), where its update area
  * begins; `area` (A), how long that is.
@@ -48,8 +49,8 @@ extern "C" {
 #endif
 
 /* The version of this header: as text, and as a number, its parts times 10,000, 100 and 1. */
-#define TEALSETTLE_VERSION "0.13.0"
-#define TEALSETTLE_VERSION_NUMBER 1300u
+#define TEALSETTLE_VERSION "0.14.0"
+#define TEALSETTLE_VERSION_NUMBER 1400u
 
 /* An answer that nobody looks at is a mistake: a refusal would go unnoticed. */
 #if defined(__GNUC__)
@@ -617,6 +618,28 @@ TEALSETTLE_MUST_USE
 TealsettleBench tealsettle_cut_run(uint32_t kind, uint8_t *chip, size_t chip_length, size_t update, size_t area,
                                    const uint8_t *image, size_t image_length, size_t k, const uint8_t *damage,
                                    size_t damage_length);
+
+/* ---- For the quality file: what a power cut can leave of a switch word ----
+ *
+ * Every word that the chip can hold at 4,092 afterwards is counted, each one time, the old word and the finished one among
+ * them: each bit ends old, or as a chip that obeys would hold it. An order that the chip calls done, and that it did not carry
+ * out in full, can leave the same words. These calls have no refusal. A word is a number, its high byte first on the chip: ON
+ * is 0xAA995566. */
+
+typedef struct {
+    uint64_t words; /* how many: 1 to 4,294,967,296 */
+    uint64_t on;    /* how many of them are ON on an SPI chip: 1 or 0 */
+} TealsettleCounts;
+
+/* After a program of `ordered_word` over `old_word`. It can only clear bits: where it orders a 1 over an old 0, that bit
+ * remains 0. From erased (0xFFFFFFFF) to ON it can leave 65,536 words, one of them ON. */
+TEALSETTLE_MUST_USE
+TealsettleCounts tealsettle_after_program(uint32_t old_word, uint32_t ordered_word);
+
+/* After an erase of the switch segment, with `old_word` in it. It can only set bits. From ON it can leave 65,536 words, one of
+ * them ON; from 0 all 4,294,967,296; from erased only that one. */
+TEALSETTLE_MUST_USE
+TealsettleCounts tealsettle_after_erase(uint32_t old_word);
 
 #ifdef __cplusplus
 }

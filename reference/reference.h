@@ -1,8 +1,8 @@
-/* The specification in C, once: packets and what loads, layouts and the builder, a run's orders and replies, the
- * cut run, MCS text, the forms of image files and reports. The tests compare the library with it, and the benchmark
- * measures the library beside it: so it is written to be fast. It takes nothing from the library but names for the
- * numbers of refusals, orders and replies, and is compiled by itself, as a library is, so that no call is optimised
- * for its caller.
+/* The specification in C, once: packets and what loads, layouts and the builder, a run's orders and replies, the cut
+ * run, what a cut can leave, MCS text, the forms of image files and reports. The tests compare the library with it, and
+ * the benchmark measures the library beside it: so it is written to be fast. It takes nothing from the library but
+ * names for the numbers of refusals, orders and replies, and is compiled by itself, as a library is, so that no call is
+ * optimised for its caller.
  *
  * A function that returns a uint32_t returns the number of a refusal or stop, or 0. A place is 0 where none is
  * named, and a refusal leaves all else that is lent as it was. */
@@ -142,6 +142,15 @@ void reference_advance(ReferenceState *state);
 /* The bytes that a look has to find. `padded_page` is used for the page where the image ends. */
 const uint8_t *reference_expected_bytes(const ReferenceState *state, const uint8_t *image,
                                         uint8_t padded_page[TEALSETTLE_PAGE]);
+
+/* ---- The switch words that a cut order can leave, and those of them that are ON ---- */
+
+typedef struct {
+    uint64_t words, on;
+} ReferenceCounts;
+
+ReferenceCounts reference_after_program(uint32_t old_word, uint32_t ordered_word);
+ReferenceCounts reference_after_erase(uint32_t old_word);
 
 /* ---- A run on a chip's bytes, cut in the order after the first `k` ---- */
 

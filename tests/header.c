@@ -76,6 +76,8 @@ int main(void)
                count_writes() == boot.writes && tealsettle_switch(TEALSETTLE_SPI, chip, sizeof chip).on && is_one_version();
     TealsettleListing list = tealsettle_writes(TEALSETTLE_SPI, chip, sizeof chip);
     good = good && tealsettle_list_next(1, list.cursor, chip, sizeof chip).number == TEALSETTLE_REFUSED_BAD_CHIP_LENGTH;
+    TealsettleCounts programmed = tealsettle_after_program(0xFFFFFFFFu, 0xAA995566u), erased = tealsettle_after_erase(0);
+    good = good && programmed.words == 65536 && programmed.on == 1 && erased.words == UINT64_C(4294967296) && erased.on == 1;
     memset(chip, 0, sizeof chip);
     boot = tealsettle_boot(TEALSETTLE_SPI, chip, sizeof chip);
     good = good && boot.number == 0 && !tealsettle_loads(boot) && !tealsettle_loads(tealsettle_boot(1, chip, sizeof chip));

@@ -6,7 +6,7 @@
 
 static _Noreturn void wrong_use(const Command *command, const char *what, const char *why)
 {
-    fprintf(stderr, "tealsettle %s: %s: %s\nusage: tealsettle %s %s\n", command->name, what, why, command->name,
+    fprintf(stderr, "tealsettle %s: %s: %s\nusage: tealsettle %s %s\n", command->name, *what ? what : "''", why, command->name,
             command->usage);
     exit(TROUBLE);
 }
@@ -26,9 +26,14 @@ static unsigned digit(char c, unsigned base)
     return value < base ? value : 16;
 }
 
+static bool is_after_0x(const char *word)
+{
+    return word[0] == '0' && (word[1] == 'x' || word[1] == 'X');
+}
+
 static Number read_number(const Command *command, const char *option, const char *word)
 {
-    bool hexadecimal = word[0] == '0' && (word[1] == 'x' || word[1] == 'X');
+    bool hexadecimal = is_after_0x(word);
     unsigned base = hexadecimal ? 16 : 10;
     const char *at = hexadecimal ? word + 2 : word;
     Number number = {.given = true};
@@ -40,6 +45,22 @@ static Number read_number(const Command *command, const char *option, const char
             wrong_use(command, option, "the number is too large");
         number.value = number.value * base + value;
     } while (*++at);
+    return number;
+}
+
+/* A switch word has eight digits. Fewer are not filled up: where one was forgotten, that would be another word. */
+static Number read_switch_word(const Command *command, const char *word)
+{
+    const char *digits = is_after_0x(word) ? word + 2 : word;
+    Number number = {.given = true};
+    bool good = strlen(digits) == 8;
+    for (; good && *digits; digits++) {
+        unsigned value = digit(*digits, 16);
+        good = value != 16;
+        number.value = number.value * 16 + value;
+    }
+    if (!good)
+        wrong_use(command, word, "is no switch word: one has eight hexadecimal digits, such as AA995566");
     return number;
 }
 
@@ -99,15 +120,28 @@ static bool is_given(const Arguments *arguments, char letter)
     }
 }
 
-static void check_needed(const Command *command, const Arguments *arguments, int files)
+/* The operand that comes after `count` others. */
+static void take_operand(const Command *command, Arguments *arguments, int count, const char *operand)
+{
+    if (count == command->files + command->words)
+        wrong_use(command, operand, command->words ? "is a word too many" : "is a file too many");
+    if (command->words)
+        arguments->words[count] = read_switch_word(command, operand);
+    else
+        arguments->files[count] = operand;
+}
+
+static void check_needed(const Command *command, const Arguments *arguments, int operands)
 {
     for (const char *letter = command->needed; *letter; letter++) {
         const char option[] = {'-', *letter, '\0'};
         if (!is_given(arguments, *letter))
             wrong_use(command, option, "is missing");
     }
-    if (files < command->files)
+    if (operands < command->files)
         wrong_use(command, "files", "a name is missing");
+    if (operands < command->words - command->optional)
+        wrong_use(command, "switch word", "is missing");
 }
 
 /* Standard input can be read once. */
@@ -124,18 +158,16 @@ Arguments read_arguments(const Command *command, char **words)
 {
     Arguments arguments = {.output = NULL};
     bool options = true;
-    int files = 0;
+    int operands = 0;
     for (; *words; words++) {
         if (options && strcmp(*words, "--") == 0)
             options = false;
         else if (options && words[0][0] == '-' && words[0][1])
             words = read_option(command, &arguments, words);
-        else if (files == command->files)
-            wrong_use(command, *words, "is a file too many");
         else
-            arguments.files[files++] = *words;
+            take_operand(command, &arguments, operands++, *words);
     }
-    check_needed(command, &arguments, files);
+    check_needed(command, &arguments, operands);
     check_input(command, &arguments);
     return arguments;
 }

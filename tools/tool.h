@@ -35,13 +35,14 @@ typedef struct {
     size_t value;
 } Number;
 
-enum { MOST_FILES = 3 };
+enum { MOST_FILES = 3, MOST_WORDS = 2 };
 
 typedef struct {
     Number length, update, area, orders; /* -F, -U, -A, -k */
     bool writes;                         /* -w */
     const char *output;                  /* -o; or null */
-    const char *files[MOST_FILES];       /* in the order of the usage line */
+    const char *files[MOST_FILES];       /* in the order of the usage line, */
+    Number words[MOST_WORDS];            /* and so are switch words */
 } Arguments;
 
 typedef struct {
@@ -51,7 +52,9 @@ typedef struct {
     const char *help;    /* the rest of what --help says */
     const char *options; /* the letters of its options, */
     const char *needed;  /* and of those that must be given */
-    int files;           /* how many file names it takes */
+    int files;           /* how many file names it takes; */
+    int words;           /* or how many switch words, */
+    int optional;        /* of which this many, the last, may be left out */
     int (*run)(const Arguments *);
 } Command;
 
@@ -181,6 +184,7 @@ void end_progress(void);
 
 /* ---- The commands ---- */
 
-extern const Command report_command, switch_command, check_command, image_command, build_command, update_command, cut_command;
+extern const Command report_command, switch_command, check_command, image_command, build_command, update_command, cut_command,
+    outcomes_command;
 
 #endif
