@@ -18,7 +18,6 @@ use Rattle.kind.specs.Spi.{spi, spiOn}
 use Rattle.flash.specs.Flash.{bit}
 use Rattle.flash.proofs.Laws.{same-bits, bit-most, bit-and, bit-xor, not-xor, bit-not, each-bit, no-bit-differs}
 use Rattle.outcomes.specs.Outcomes.{mixtures, howMany, wordIsOn, countsOf, programCounts, eraseCounts}
-use Rattle.outcomes.specs.Types.{TealsettleCounts}
 use Rattle.outcomes.specs.Internal.{spiOnWord, outside, countsBy, changingCounts}
 use Rattle.outcomes.specs.Theorems.{PowersOfTwo, OnAtMostOnce}
 use Rattle.outcomes.proofs.ListLaws.{no-ones, mixtures-length, in-list, listed-bits, listed-once, same-count}
