@@ -26,14 +26,14 @@ static unsigned digit(char c, unsigned base)
     return value < base ? value : 16;
 }
 
-static bool is_after_0x(const char *word)
+static bool begins_with_0x(const char *word)
 {
     return word[0] == '0' && (word[1] == 'x' || word[1] == 'X');
 }
 
 static Number read_number(const Command *command, const char *option, const char *word)
 {
-    bool hexadecimal = is_after_0x(word);
+    bool hexadecimal = begins_with_0x(word);
     unsigned base = hexadecimal ? 16 : 10;
     const char *at = hexadecimal ? word + 2 : word;
     Number number = {.given = true};
@@ -51,7 +51,7 @@ static Number read_number(const Command *command, const char *option, const char
 /* A switch word has eight digits. Fewer are not filled up: where one was forgotten, that would be another word. */
 static Number read_switch_word(const Command *command, const char *word)
 {
-    const char *digits = is_after_0x(word) ? word + 2 : word;
+    const char *digits = begins_with_0x(word) ? word + 2 : word;
     Number number = {.given = true};
     bool good = strlen(digits) == 8;
     for (; good && *digits; digits++) {

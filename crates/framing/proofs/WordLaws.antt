@@ -6,7 +6,7 @@ use native.Mathlib.Nat.{add-zero}
 use native.Mathlib.Omega.{arith}
 use lib.ListN.{length, getD, drop, length-drop}
 use lib.Seq.{drop-cons, getD-drop, drop-drop}
-use Rattle.framing.specs.Words.{words}
+use Rattle.framing.specs.Words.{words, bytesOf}
 
 pub length-words : (xs : List ℕ) → length (words xs) ≡ length xs / 4
 unfolding words
@@ -53,6 +53,18 @@ bytes-word word h =
   where
     glue : (a b c d n₂₄ n₁₆ n₈ n : ℕ) → a ≡ n₂₄ → n₁₆ ≡ 256 * n₂₄ + b → n₈ ≡ 256 * n₁₆ + c → n ≡ 256 * n₈ + d → (a * 256 + b) * 65536 + (c * 256 + d) ≡ n
     glue a b c d n₂₄ n₁₆ n₈ n e₀ e₁ e₂ e₃ = omega arith
+
+-- Four bytes are those of the word that they make.
+abbrev pub wordOf : ℕ → ℕ → ℕ → ℕ → ℕ
+wordOf a b c d = (a * 256 + b) * 65536 + (c * 256 + d)
+
+pub word-bytes : (a b c d : ℕ) → a < 256 → b < 256 → c < 256 → d < 256 → bytesOf (wordOf a b c d) ≡ a ∷ b ∷ c ∷ d ∷ []
+word-bytes a b c d p q r s =
+    let first : wordOf a b c d / 2 ^ 24 % 256 ≡ a = omega arith in
+    let second : wordOf a b c d / 2 ^ 16 % 256 ≡ b = omega arith in
+    let third : wordOf a b c d / 2 ^ 8 % 256 ≡ c = omega arith in
+    let fourth : wordOf a b c d % 256 ≡ d = omega arith in
+    rw (first, second, third, fourth) refl
 
 -- the word after i more
 pub word-after : (s : List ℕ) (at i : ℕ) → getD (words (drop at s)) i 0 ≡ getD (words (drop (at + 4 * i) s)) 0 0

@@ -11,6 +11,7 @@ use lib.Pow.{shr-shr, field, mod-mod-pow}
 use lib.Seq.{ext-getD, length-take-le, getD-take, getD-append-add}
 use Rattle.base.proofs.Laws.{below-or-not}
 use Rattle.framing.specs.Words.{bytesOf}
+use Rattle.framing.proofs.Laws.{wordOf, word-bytes}
 use Rattle.kind.specs.Layout.{segment, switchAt}
 use Rattle.flash.specs.Flash.{erased, span, overwrite, cleared, afterProgram, bit}
 use Rattle.flash.proofs.Laws.{erased-length, erased-at, cleared-length, cleared-at, span-at, span-length, overwrite-length, overwrite-inside, all-ones, bit-and}
@@ -54,18 +55,6 @@ byte-small word (suc (suc (suc (suc j)))) h = absurd (omega arith)
 -- every bit is one of a byte's
 by-byte : (P : ℕ → Type 0) → ((j : ℕ) → j < 4 → (n : ℕ) → n < 8 → P (bitAt j n)) → (n : ℕ) → n < 32 → P n
 by-byte P each n h = subst P (let e : bitAt (3 - n / 8) (n % 8) ≡ n = omega arith in e) (each (3 - n / 8) (omega arith) (n % 8) (omega arith))
-
--- Four bytes are those of a word.
-abbrev wordOf : ℕ → ℕ → ℕ → ℕ → ℕ
-wordOf a b c d = (a * 256 + b) * 65536 + (c * 256 + d)
-
-word-bytes : (a b c d : ℕ) → a < 256 → b < 256 → c < 256 → d < 256 → bytesOf (wordOf a b c d) ≡ a ∷ b ∷ c ∷ d ∷ []
-word-bytes a b c d p q r s =
-    let first : wordOf a b c d / 2 ^ 24 % 256 ≡ a = omega arith in
-    let second : wordOf a b c d / 2 ^ 16 % 256 ≡ b = omega arith in
-    let third : wordOf a b c d / 2 ^ 8 % 256 ≡ c = omega arith in
-    let fourth : wordOf a b c d % 256 ≡ d = omega arith in
-    rw (first, second, third, fourth) refl
 
 -- THE RULE OF DAMAGE, for an order whose span ends with the switch word or is it: `before` bytes come first in the span.
 module _ (chip : List ℕ) (place before : ℕ) (obeyed : List ℕ) (old number : ℕ) (ends : place + before ≡ switchAt) (fills : length obeyed ≡ before + 4)
