@@ -70,3 +70,7 @@ badEnd = 18
 -- Question 13.
 abbrev pub noRoom : ℕ
 noRoom = 19
+
+-- Document 02, M-111: in place of question 4.
+abbrev pub badHeaviestLength : ℕ
+badHeaviestLength = 29

@@ -39,3 +39,5 @@ pub const BAD_ADDRESS: u32 = 17;
 pub const BAD_END: u32 = 18;
 
 pub const NO_ROOM: u32 = 19;
+
+pub const BAD_HEAVIEST_LENGTH: u32 = 29;

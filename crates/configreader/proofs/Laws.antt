@@ -22,6 +22,11 @@ pub use Rattle.configreader.proofs.PlacementLaws.{movedWrite}
 pub use Rattle.configreader.proofs.ReadingLaws.{proper, alone-parts}
 unfoldable pub use Rattle.configreader.proofs.ReadingLaws.{Proper}
 
+-- A sync word that is found and packets that end are a reading that is Loaded.
+pub loads-from : (left : ℕ) (jumped : Bool) (s : List ℕ) (from sync end writes : ℕ) → find (drop from s) from ≡ SyncAt sync → finishFrom s (sync + 4) ≡ FinishEnded end writes →
+    readFrom left jumped s from ≡ Loaded sync end writes jumped
+loads-from left jumped s from sync end writes here ended = search-found (jump left s) jumped s from sync here ∙ read-ended (jump left s) jumped s sync end writes ended
+
 -- Places apart, moved writes are the same writes.
 moved-contents : (d : ℕ) (writes : List Write) → contents (map (movedWrite d) writes) ≡ contents writes
 moved-contents d [] = refl

@@ -6,8 +6,10 @@ use native.Mathlib.Omega.{arith}
 use borrow.Author.Tests.{le-leb}
 use lib.Bits.{bitAnd}
 use lib.ListN.{length, getD, take, drop, length-append, length-replicate, getD-replicate, length-drop, drop-of-length-le, List·getD-append}
-use lib.Seq.{paste, take-all, take-length, drop-drop, length-take-le, getD-take, getD-drop, getD-append-add, take-append-le, drop-append-le}
+use lib.Seq.{paste, take-all, take-length, drop-drop, length-take-le, getD-take, getD-drop, getD-append-add, take-append-le, drop-append-le, drop-append-add, take-at}
 use Rattle.base.specs.Question.{ask}
+use Rattle.base.specs.Output.{frontFilled}
+use Rattle.base.proofs.Laws.{front-fits}
 use Rattle.flash.specs.Flash.{erased, span, overwrite, overwriteInRange, flashAnswer, cleared}
 use Rattle.flash.specs.Types.{FlashDone}
 
@@ -79,6 +81,26 @@ front-over chip place bytes after e =
 pub in-range : (chip : List ℕ) (place count : ℕ) (bytes : List ℕ) → place + count ≤ length chip → overwriteInRange chip place count bytes ≡ overwrite chip place bytes
 unfolding overwriteInRange ask
 in-range chip place count bytes h = rw (le-leb (place + count) (length chip) h) refl
+
+-- Output that is written part after part: the next part stands after those that fill the front.
+pub front-on : (done buffer : List ℕ) (place count : ℕ) (bytes : List ℕ) → length done ≡ place → length bytes ≡ count → place + count ≤ length buffer →
+    overwriteInRange (frontFilled done buffer) place count bytes ≡ frontFilled (done ++ bytes) buffer
+front-on done buffer place count bytes here long fits =
+    ap (λ (l : List ℕ). overwriteInRange l place count bytes) (front-fits done buffer (omega arith))
+    ∙ in-range (done ++ rest) place count bytes (let n = length-append done rest in let m = length-drop (length done) buffer in omega arith)
+    ∙ rw (take-at done rest place here) (ap (λ (l : List ℕ). done ++ (bytes ++ l)) after)
+    ∙ sym (append-assoc done bytes (drop (length (done ++ bytes)) buffer))
+    ∙ sym (front-fits (done ++ bytes) buffer (let n = length-append done bytes in omega arith))
+  where
+    rest : List ℕ
+    rest = drop (length done) buffer
+
+    after : drop (place + length bytes) (done ++ rest) ≡ drop (length (done ++ bytes)) buffer
+    after =
+        ap (λ (n : ℕ). drop (n + length bytes) (done ++ rest)) (sym here)
+        ∙ drop-append-add done rest (length bytes)
+        ∙ drop-drop (length bytes) (length done) buffer
+        ∙ ap (λ (n : ℕ). drop n buffer) (sym (length-append done bytes))
 
 -- What an erase and a program leave, byte by byte.
 pub erased-length : (count : ℕ) → length (erased count) ≡ count

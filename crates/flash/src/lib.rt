@@ -2,7 +2,7 @@
 ghost use mathlib.Core.Path.{_≡_};
 ghost use Prim.Native.Nat.{_+_};
 ghost use lib.Dec.{leb};
-ghost use lib.ListN.{length};
+ghost use lib.ListN.{length, replicate};
 ghost use Rattle.base.specs.Answer.{Gives};
 ghost use Rattle.base.specs.Refusal.{noRoom};
 ghost use Rattle.flash.specs.Flash.{erased, flashNumbers, flashAnswer, afterProgram, overwriteInRange};
@@ -35,20 +35,28 @@ fn no_room() -> FlashAnswer
     }
 }
 
-// An erase sets every byte of its span to FF; or refusal 19, and the chip as it was.
-pub fn erase(chip: &mut [u8], place: usize, count: usize) -> FlashAnswer
+// Puts one byte at every place of a span, whatever stood there; or refusal 19, and the chip as it was.
+pub fn fill(chip: &mut [u8], place: usize, count: usize, byte: u8) -> FlashAnswer
     ensures answer { λ r. ⌜ Gives flashNumbers r (flashAnswer (length (now (chip .entry))) place count) ⌝ }
-    ensures output { λ r. ⌜ now (chip .exit) ≡ overwriteInRange (now (chip .entry)) place count (erased count) ⌝ }
+    ensures output { λ r. ⌜ now (chip .exit) ≡ overwriteInRange (now (chip .entry)) place count (replicate count byte) ⌝ }
 {
     if !lies_within(chip.len(), place, count) {
         return no_room();
     }
     let mut i = 0;
     while i < count {
-        chip[place + i] = 0xFF;
+        chip[place + i] = byte;
         i += 1;
     }
     FlashAnswer::Done
+}
+
+// An erase sets every byte of its span to FF; or refusal 19, and the chip as it was.
+pub fn erase(chip: &mut [u8], place: usize, count: usize) -> FlashAnswer
+    ensures answer { λ r. ⌜ Gives flashNumbers r (flashAnswer (length (now (chip .entry))) place count) ⌝ }
+    ensures output { λ r. ⌜ now (chip .exit) ≡ overwriteInRange (now (chip .entry)) place count (erased count) ⌝ }
+{
+    fill(chip, place, count, 0xFF)
 }
 
 // A program clears exactly the bits that are 0 in its bytes; or refusal 19, and the chip as it was.

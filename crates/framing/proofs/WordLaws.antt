@@ -1,12 +1,12 @@
 -- Words by their place in the bytes.
 use Prim.Native.Nat.{ℕ, zero, suc, _+_, _-_, _*_, _/_, _%_, _^_, _<_, _≤_}
 use mathlib.Core.Path.{_≡_, refl, sym, ap, _∙_}
-use mathlib.Core.List.{List, [], _∷_}
+use mathlib.Core.List.{List, [], _∷_, _++_, append-assoc}
 use native.Mathlib.Nat.{add-zero}
 use native.Mathlib.Omega.{arith}
-use lib.ListN.{length, getD, drop, length-drop}
+use lib.ListN.{length, getD, drop, replicate, length-drop, length-append}
 use lib.Seq.{drop-cons, getD-drop, drop-drop}
-use Rattle.framing.specs.Words.{words, bytesOf}
+use Rattle.framing.specs.Words.{words, bytesOf, bytesOfWords}
 
 pub length-words : (xs : List ℕ) → length (words xs) ≡ length xs / 4
 unfolding words
@@ -53,6 +53,28 @@ bytes-word word h =
   where
     glue : (a b c d n₂₄ n₁₆ n₈ n : ℕ) → a ≡ n₂₄ → n₁₆ ≡ 256 * n₂₄ + b → n₈ ≡ 256 * n₁₆ + c → n ≡ 256 * n₈ + d → (a * 256 + b) * 65536 + (c * 256 + d) ≡ n
     glue a b c d n₂₄ n₁₆ n₈ n e₀ e₁ e₂ e₃ = omega arith
+
+-- A word's bytes are read as that word,
+pub words-first : (word : ℕ) (rest : List ℕ) → word < 2 ^ 32 → words (bytesOf word ++ rest) ≡ word ∷ words rest
+unfolding words
+words-first word rest h = ap (λ (w : ℕ). w ∷ words rest) (bytes-word word h)
+
+-- and words take four bytes each.
+pub bytes-words-append : (first second : List ℕ) → bytesOfWords (first ++ second) ≡ bytesOfWords first ++ bytesOfWords second
+unfolding bytesOfWords
+bytes-words-append [] second = refl
+bytes-words-append (word ∷ first) second = ap (λ (l : List ℕ). bytesOf word ++ l) (bytes-words-append first second) ∙ sym (append-assoc (bytesOf word) (bytesOfWords first) (bytesOfWords second))
+
+pub bytes-words-length : (ws : List ℕ) → length (bytesOfWords ws) ≡ 4 * length ws
+unfolding bytesOfWords
+bytes-words-length [] = refl
+bytes-words-length (word ∷ ws) = let h : length (bytesOfWords ws) ≡ 4 * length ws = bytes-words-length ws in omega arith
+
+-- Words of 0 are bytes of 0.
+pub bytes-of-zeros : (k : ℕ) → bytesOfWords (replicate k 0) ≡ replicate (4 * k) 0
+unfolding bytesOfWords
+bytes-of-zeros zero = refl
+bytes-of-zeros (suc k) = rw four-more (ap (λ (l : List ℕ). 0 ∷ 0 ∷ 0 ∷ 0 ∷ l) (bytes-of-zeros k))
 
 -- Four bytes are those of the word that they make.
 abbrev pub wordOf : ℕ → ℕ → ℕ → ℕ → ℕ

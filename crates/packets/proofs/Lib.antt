@@ -1,2 +1,4 @@
+pub mod HeaderLaws
 pub mod TraceLaws
+pub mod CostLaws
 pub mod Laws

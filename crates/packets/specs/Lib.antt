@@ -2,3 +2,5 @@
 pub mod Types
 pub mod Header
 pub mod Trace
+-- What is proved of them.
+pub mod Theorems

@@ -1,0 +1,3 @@
+pub mod ImageLaws
+pub mod AcceptedLaws
+pub mod Laws

@@ -1,0 +1,134 @@
+// The image with most writes, for its length, that is accepted, and how many it has.
+ghost use mathlib.Core.Path.{_≡_};
+ghost use mathlib.Core.List.{[], _∷_};
+ghost use Prim.Native.Nat.{_*_, _≤_};
+ghost use lib.ListN.{length, take};
+ghost use Rattle.base.specs.Answer.{Gives};
+ghost use Rattle.base.specs.Output.{frontFilled};
+ghost use Rattle.framing.specs.Words.{bytesOfWords};
+ghost use Rattle.heaviest.specs.Heaviest.{shortestImage, heaviestLengthAllowed, mostIn, mostWrites, heaviestImage, mostNumbers, mostAnswer, heaviestAnswer, heaviestOutput};
+ghost use Rattle.heaviest.specs.Internal.{opening};
+use base::refusal;
+use flash::erase;
+use flash::fill;
+use flash::overwrite;
+use kind::spi::Spi;
+
+// No accepted image is shorter.
+const SHORTEST: usize = 12;
+
+// Up to so many words one type 1 header has room for the count of all data words, 2,047; beyond, a type 2 header has it.
+const TYPE1_WORDS: usize = 2_049;
+
+// The word that ends the reading, as its bytes.
+const DESYNC: [u8; 4] = [0x00, 0x00, 0x00, 0x0D];
+
+// How many writes, or a refusal that left lent memory as it was.
+pub enum MostAnswer {
+    Most { writes: usize },
+    Refused { number: u32, place: usize },
+}
+
+// Is there an accepted image of this length?
+fn length_allowed(length: usize) -> bool
+    ensures { λ r. ⌜ r ≡ heaviestLengthAllowed length ⌝ }
+{
+    if length < SHORTEST {
+        return false;
+    }
+    length <= Spi::LONGEST
+}
+
+// The greatest number of writes in so many words: all but the sync word and the headers of one packet.
+fn most_in(words: usize) -> usize
+    requires { ⌜ 3 ≤ words ⌝ }
+    ensures { λ r. ⌜ r ≡ mostIn words ⌝ }
+{
+    if words <= TYPE1_WORDS {
+        return words - 2;
+    }
+    words - 3
+}
+
+// The sync word and two more, high byte first.
+fn three_words(second: usize, third: usize) -> [u8; 12]
+    ensures { λ r. ⌜ r ≡ bytesOfWords (0xAA995566 ∷ second ∷ third ∷ []) ⌝ }
+{
+    [
+        0xAA,
+        0x99,
+        0x55,
+        0x66,
+        (second / 16_777_216 % 256) as u8,
+        (second / 65_536 % 256) as u8,
+        (second / 256 % 256) as u8,
+        (second % 256) as u8,
+        (third / 16_777_216 % 256) as u8,
+        (third / 65_536 % 256) as u8,
+        (third / 256 % 256) as u8,
+        (third % 256) as u8,
+    ]
+}
+
+// The sync word and the packet's headers. Where one header will do, what follows it here is not written.
+fn opening_of(words: usize, writes: usize) -> [u8; 12]
+    requires { ⌜ (writes ≡ mostIn words) × (words ≤ 4194304) ⌝ }
+    ensures { λ r. ⌜ take (length (opening words)) r ≡ opening words ⌝ }
+{
+    if words <= TYPE1_WORDS {
+        return three_words(0x3000_8000 + writes, 0);
+    }
+    three_words(0x3000_8000, 0x5000_0000 + writes)
+}
+
+// Writes the image into a buffer that it fits into: part after part, from the front.
+fn put_image(image_length: usize, writes: usize, out: &mut [u8])
+    requires { ⌜ (shortestImage ≤ «image_length») × («image_length» ≤ 16777216) × (writes ≡ mostWrites «image_length») × («image_length» ≤ length (now out)) ⌝ }
+    ensures { λ r. ⌜ now (out .exit) ≡ frontFilled (heaviestImage «image_length») (now (out .entry)) ⌝ }
+{
+    let words = image_length / 4;
+    let opening = opening_of(words, writes);
+    let data = 4 * (words - writes);
+    let last = 4 * (words - 1);
+    // The spans lie within the buffer, so none of the four is refused.
+    let _ = overwrite(out, 0, &opening[..data]);
+    let _ = fill(out, data, last - data, 0);
+    let _ = overwrite(out, last, &DESYNC);
+    let _ = erase(out, last + 4, image_length % 4);
+}
+
+// The greatest number of writes that an accepted image of so many bytes can have; or refusal 29.
+pub fn most_writes(image_length: usize) -> MostAnswer
+    ensures { λ r. ⌜ Gives mostNumbers r (mostAnswer «image_length») ⌝ }
+{
+    if !length_allowed(image_length) {
+        return MostAnswer::Refused {
+            number: refusal::BAD_HEAVIEST_LENGTH,
+            place: 0,
+        };
+    }
+    MostAnswer::Most {
+        writes: most_in(image_length / 4),
+    }
+}
+
+// Writes an image of so many bytes that has them to the front of a buffer; or refusal 29 or 19, and the buffer as it was.
+pub fn write_image(image_length: usize, out: &mut [u8]) -> MostAnswer
+    ensures answer { λ r. ⌜ Gives mostNumbers r (heaviestAnswer «image_length» (length (now (out .entry)))) ⌝ }
+    ensures output { λ r. ⌜ now (out .exit) ≡ heaviestOutput «image_length» (now (out .entry)) ⌝ }
+{
+    let most = most_writes(image_length);
+    match most {
+        MostAnswer::Most { writes } => {
+            if out.len() < image_length {
+                return MostAnswer::Refused {
+                    number: refusal::NO_ROOM,
+                    place: 0,
+                };
+            }
+            put_image(image_length, writes, out);
+            MostAnswer::Most { writes }
+        }
+        MostAnswer::Refused { number, place } => MostAnswer::Refused { number, place },
+    }
+}
