@@ -34,6 +34,12 @@ unfolding ask
 asked-yes true refused rest e = refl
 asked-yes false refused rest e = absurd (false-true e)
 
+-- What holds of the refusal and of the rest holds of the answer.
+pub either-way {ℓ} : {A : Type ℓ} (P : A → Type 0) (b : Bool) (refused rest : A) → P refused → P rest → P (ask b refused rest)
+unfolding ask
+either-way P true refused rest r h = h
+either-way P false refused rest r h = r
+
 -- Below a number, or not.
 pub below-or-not : (a b : ℕ) → (a < b) ⊎ (b ≤ a)
 below-or-not a b = go (ltb a b) refl

@@ -1,4 +1,4 @@
--- What is proved of the calls on a chip and on an image: that the ways to the list of writes agree, and how short an image can be.
+-- What is proved of the calls on a chip and on an image: that the ways to the list of writes agree, how short an image can be, and how one is refused.
 use Prim.Native.Nat.{ℕ, _≤_}
 use mathlib.Core.Path.{_≡_}
 use mathlib.Core.Bool.{Bool}
@@ -9,9 +9,10 @@ use Rattle.writes.specs.Theorems.{stepWrite}
 use Rattle.configreader.specs.Configreader.{readFrom, listed}
 use Rattle.configreader.specs.Theorems.{twelveBytes}
 use Rattle.kind.specs.Spi.{spi}
-use Rattle.bootreader.specs.Image.{imageAnswer, imageWrite, imageListing}
+use Rattle.base.specs.Refusal.{badImageLength, imageJumps}
+use Rattle.bootreader.specs.Image.{imageWithin, imageAnswer, imageWrite, imageListing}
 use Rattle.bootreader.specs.Boot.{cursorOf, chipWrite, chipListing}
-use Rattle.bootreader.specs.Types.{Loaded, Cursor, ListingOpen, Accepted}
+use Rattle.bootreader.specs.Types.{Loaded, Cursor, ListingOpen, Accepted, ImageRefused}
 
 -- A cursor gives the list of the chip or image it was opened on, write by write, as the call by index does.
 pub record CursorLists : Type 0 where
@@ -32,3 +33,9 @@ WritesCounted =
 pub record ShortestImage : Type 0 where
   pub none-shorter : (image : List ℕ) (sync end writes : ℕ) → imageAnswer spi image ≡ Accepted sync end writes → 12 ≤ length image
   pub of-twelve : imageAnswer spi twelveBytes ≡ Accepted 0 12 1
+
+-- An image is refused with 4, 5 or 6, at a place within it or at its end, whatever its area's length.
+abbrev pub ImageRefusals : Type 0
+ImageRefusals =
+    (longest : ℕ) (image : List ℕ) (number place : ℕ) → imageWithin spi longest image ≡ ImageRefused number place →
+    (badImageLength ≤ number) × (number ≤ imageJumps) × (place ≤ length image)

@@ -19,7 +19,7 @@ use Rattle.bootreader.specs.Image.{imageWithin}
 use Rattle.builder.specs.Types.{Loaded, ImageAnswer, Accepted, ImageRefused, Layout, LayoutAnswer, LayoutAllowed, LayoutRefused, BuildAnswer, Built, BuildRefused}
 use Rattle.base.proofs.Laws.{asked, front-fits}
 use Rattle.kind.proofs.Laws.{chip-length-range, update-place-range, onLayout, by-layout, allowed-asks}
-use Rattle.bootreader.proofs.Laws.{onAnswer, by-answer, accepted-length}
+use Rattle.bootreader.proofs.Laws.{onAnswer, by-answer, accepted-length, image-refusals}
 use Rattle.configreader.proofs.Laws.{ends-within, local}
 use Rattle.flash.specs.Flash.{erased, overwrite, overwriteInRange}
 use Rattle.kind.specs.Spi.{spi, spiOn, spiWarmBoot}
@@ -85,6 +85,27 @@ module _ (layout : Layout) (golden : List ℕ) (room : ℕ) where
             accepted = q;
             fits = leb-true _ _ (asked _ _ _ _ (sym (by-image (Accepted sync end writes) q) ∙ rw p at answer) (refused-built noRoom 0) .0);
           }
+
+-- With a layout that is allowed, the builder refuses with a number of the image, at a place of it, or with 19.
+pub allowed-refusals : (layout : Layout) (golden : List ℕ) (room number place : ℕ) → layoutAnswer layout ≡ LayoutAllowed → buildAnswer spi layout golden room ≡ BuildRefused number place → (number ≤ noRoom) × (place ≤ length golden)
+unfolding buildAnswer onAnswer onFit onLayout ask
+allowed-refusals layout golden room number place allowed e = go (imageWithin spi (layout .«update_place» - goldenAt) golden) refl
+  where
+    answer : goldenAnswer spi layout golden room ≡ BuildRefused number place
+    answer = rw allowed at (by-layout BuildRefused (goldenAnswer spi layout golden room) layout ∙ e)
+
+    fits : (b : Bool) → ask b (BuildRefused noRoom 0) Built ≡ BuildRefused number place → (number ≤ noRoom) × (place ≤ length golden)
+    fits false q = let n : noRoom ≡ number = cc in let p : 0 ≡ place = cc in (omega arith, omega arith)
+    fits true q = absurd (refused-built number place (sym q))
+
+    go : (a : ImageAnswer) → imageWithin spi (layout .«update_place» - goldenAt) golden ≡ a → (number ≤ noRoom) × (place ≤ length golden)
+    go (ImageRefused n p) q =
+        let same = sym (golden-refused layout golden room n p q) ∙ answer in
+        let r = image-refusals (layout .«update_place» - goldenAt) golden n p q in
+        let a : n ≡ number = cc in
+        let b : p ≡ place = cc in
+        (omega arith, omega arith)
+    go (Accepted sync end writes) q = fits (leb (layout .«chip_length») room) (sym (by-image layout golden room (Accepted sync end writes) q) ∙ answer)
 
 pub words-length : (updatePlace : ℕ) → length (spiWarmBoot updatePlace) ≡ 20
 unfolding spiWarmBoot

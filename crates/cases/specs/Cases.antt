@@ -5,6 +5,7 @@ use mathlib.Core.List.{List, [], _∷_, _++_}
 use lib.ListN.{length, take, replicate}
 use Rattle.base.specs.Answer.{Numbered, result, refusal, value}
 use Rattle.bootreader.specs.Image.{imageNumbers, imageAnswer}
+use Rattle.heaviest.specs.Heaviest.{heaviestImage, mostNumbers, mostAnswer}
 use Rattle.flash.specs.Flash.{erased}
 use Rattle.kind.specs.Layout.{layoutOf, layoutNumbers, layoutAnswer}
 use Rattle.chip.specs.Switch.{switchNumbers, switchAnswer}
@@ -14,7 +15,7 @@ use Rattle.orders.specs.Orders.{orders as runOrders}
 use Rattle.starts.specs.Starts.{totalNumbers, totalAnswer}
 use Rattle.mcs.specs.Reader.{readNumbers, readAnswer, readOutput}
 
--- What the paper says of a case: an answer in its numbers, and what is beside it, the bytes of an image that a text holds or how many orders are listed.
+-- What the paper says of a case: an answer in its numbers, and what is beside it: the bytes of an image that a text holds, how many orders are listed, or what the image check says of the image with most writes.
 abbrev pub Says : Type 0
 Says = Numbered × List ℕ
 
@@ -38,6 +39,9 @@ counts words on = (result (words ∷ on ∷ []), [])
 
 abbrev pub orders : ℕ → ℕ → Says
 orders total listed = (result (total ∷ []), listed ∷ [])
+
+abbrev pub has : ℕ → ℕ → Says
+has writes end = (result (writes ∷ []), 0 ∷ end ∷ writes ∷ [])
 
 -- an answer with nothing beside it
 abbrev pub alone : Numbered → Says
@@ -87,6 +91,14 @@ programCut old ordered expected = record { asks = λ rest. counts (programCounts
 
 abbrev pub eraseCut : ℕ → Says → Row
 eraseCut old expected = record { asks = λ rest. counts (eraseCounts spi old .words) (eraseCounts spi old .on); room = 0; says = expected }
+
+-- the greatest number of writes for n bytes; and beside it what the image check says of such an image
+abbrev pub most : ℕ → Says → Row
+most n expected = record { asks = λ rest. (mostNumbers (mostAnswer n), imageNumbers (imageAnswer spi (heaviestImage n)) .values); room = 0; says = expected }
+
+-- a length that no such image has
+abbrev pub noMost : ℕ → Says → Row
+noMost n expected = record { asks = λ rest. alone (mostNumbers (mostAnswer n)); room = 0; says = expected }
 
 -- an image of n bytes and A, on a chip of 32,768 bytes with its update area at 12,288
 abbrev pub run : ℕ → ℕ → Says → Row
@@ -144,4 +156,16 @@ rows =
     ∷ eraseCut 0x00000000 (counts 4294967296 1)
     -- an erase of FFFFFFFF: that word
     ∷ eraseCut 0xFFFFFFFF (counts 1 0)
+    -- document 02, M-111: the shortest image has one write
+    ∷ most 12 (has 1 12)
+    -- w = 2,049: w - 2 writes, and beyond w - 3
+    ∷ most 8196 (has 2047 8196)
+    ∷ most 8200 (has 2047 8200)
+    ∷ most 8204 (has 2048 8204)
+    -- the longest image, and bytes after its last whole word
+    ∷ most 16777216 (has 4194301 16777216)
+    ∷ most 15 (has 1 12)
+    -- a byte less or more: 29
+    ∷ noMost 11 (refuses 29 0)
+    ∷ noMost 16777217 (refuses 29 0)
     ∷ []

@@ -1,4 +1,4 @@
--- What crates above may count on of the reader, beside the contracts: locality and placement, what a search passes over, the jump through a header. Nothing above needs the reader's definitions opened.
+-- What crates above may count on of the reader, beside the contracts: locality and placement, where a fault lies, what a search passes over, the jump through a header. Nothing above needs the reader's definitions opened.
 use Prim.Native.Nat.{ℕ, suc, _+_, _-_, _%_, _^_, _<_, _≤_}
 use mathlib.Core.Path.{_≡_, refl, sym, ap, ap₂, _∙_}
 use mathlib.Core.Bool.{Bool, false}
@@ -13,7 +13,7 @@ use Rattle.base.specs.Question.{ask}
 use Rattle.packets.specs.Header.{registerOk, type1Of, headOf, effectOf}
 use Rattle.packets.specs.Trace.{other, header, modeOf, afterHeader, trace, finish, finishFrom, writesFrom, contents}
 use Rattle.configreader.specs.Configreader.{readAt, searchFrom, jump, readFrom, readAlone, listed}
-use Rattle.configreader.specs.Theorems.{Placement, Locality, twelveBytes, ShortestReading, Skipping, Jumping}
+use Rattle.configreader.specs.Theorems.{Placement, Locality, twelveBytes, ShortestReading, FaultsWithin, Skipping, Jumping}
 use Rattle.configreader.specs.Types.{Found, SyncAt, NoSync, FinishEnded, FinishIprog, Write, Loaded}
 use Rattle.framing.proofs.Laws.{find-here, find-past, find-within, stands-at, words-cons, room}
 use Rattle.configreader.proofs.ReadingLaws.{Proper, read-ended, read-jump, search-found, search-none, jump-on, proper, alone-parts}
@@ -125,6 +125,13 @@ twelve-reads = refl
 
 pub shortest-reading : ShortestReading
 shortest-reading = record { none-shorter = twelve-least; of-twelve = twelve-reads }
+
+pub faults-within : FaultsWithin
+unfolding Proper
+faults-within = record {
+  stuck = λ left jumped bytes from place l e. rw e at (proper left jumped bytes from l);
+  iprog = λ left jumped bytes from place l e. rw e at (proper left jumped bytes from l);
+}
 
 -- SKIPPING: a search passes over places where no sync word begins.
 pub search-past : Skipping

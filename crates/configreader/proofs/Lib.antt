@@ -1,3 +1,3 @@
-pub mod ReadingLaws
 pub mod PlacementLaws
+pub mod ReadingLaws
 pub mod Laws

@@ -183,3 +183,10 @@ ended-after s from end writes e =
     let l = ended-words (words (drop from s)) from other 0 0 end writes e in
     let r = room s from in
     (omega arith, omega arith)
+
+-- Packets are not read past the bytes.
+pub looked-within : (s : List ℕ) (from : ℕ) (f : Finish) → from ≤ length s → finishFrom s from ≡ f → (f ≡ FinishShort → ⊥) → lookedTo f ≤ length s
+looked-within s from f l e h =
+    let w = looked (words (drop from s)) from (header other) 0 0 f e h in
+    let r = room s from in
+    omega arith

@@ -13,6 +13,7 @@ use Rattle.packets.specs.Trace.{finishFrom}
 use Rattle.configreader.specs.Configreader.{readAt, searchFrom, jump, readFrom}
 use Rattle.configreader.specs.Types.{Found, SyncAt, NoSync, Finish, FinishEnded, FinishIprog, FinishFault, FinishShort, Outcome, Loaded, OutcomeIprog, Stuck}
 use Rattle.framing.proofs.Laws.{find-within}
+use Rattle.configreader.proofs.PlacementLaws.{lookedTo, looked-within}
 
 -- Each way that a reading goes, one law.
 
@@ -63,38 +64,42 @@ module _ (left : ℕ) (s : List ℕ) (place to : ℕ) where
   pub jump-on : (left ≡ 0 → ⊥) → to < length s → jump left s place to ≡ readFrom (left - 1) true s to
   jump-on h l = on-by left s place to h (lt-ltb to (length s) l)
 
--- What Loaded says of the bytes: its sync stands whole in them, and the packets after it end as it says.
+-- What an outcome says of the bytes: of Loaded, its sync stands whole in them, and the packets after it end as it says; of a fault, it lies within them or at their end.
 unfoldable pub Proper : List ℕ → Outcome → Type 0
 Proper s (Loaded sync end writes jumped) = (sync + 4 ≤ length s) × (finishFrom s (sync + 4) ≡ FinishEnded end writes)
-Proper s (OutcomeIprog place) = Unit {0}
-Proper s (Stuck place) = Unit {0}
+Proper s (OutcomeIprog place) = place ≤ length s
+Proper s (Stuck place) = place ≤ length s
 
-proper-at : (onJump : ℕ → ℕ → Outcome) (jumped : Bool) (s : List ℕ) (sync : ℕ) → ((place to : ℕ) → Proper s (onJump place to)) → sync + 4 ≤ length s → Proper s (readAt onJump jumped s sync)
-unfolding Proper
+proper-at : (onJump : ℕ → ℕ → Outcome) (jumped : Bool) (s : List ℕ) (sync : ℕ) → ((place to : ℕ) → place ≤ length s → Proper s (onJump place to)) → sync + 4 ≤ length s → Proper s (readAt onJump jumped s sync)
+unfolding Proper lookedTo
 proper-at onJump jumped s sync h l = go (finishFrom s (sync + 4)) refl
   where
     go : (f : Finish) → finishFrom s (sync + 4) ≡ f → Proper s (readAt onJump jumped s sync)
     go (FinishEnded end writes) e = rw (read-ended onJump jumped s sync end writes e) (l, e)
-    go (FinishIprog place to) e = rw (read-jump onJump jumped s sync place to e) (h place to)
-    go (FinishFault place) e = rw (read-fault onJump jumped s sync place e) tt
-    go FinishShort e = rw (read-short onJump jumped s sync e) tt
+    go (FinishIprog place to) e =
+        let w : place + 4 ≤ length s = looked-within s (sync + 4) (FinishIprog place to) l e (λ q. let z : _≡_ {A = ℕ} 0 1 = cc in omega arith) in
+        rw (read-jump onJump jumped s sync place to e) (h place to (omega arith))
+    go (FinishFault place) e =
+        let w : place + 4 ≤ length s = looked-within s (sync + 4) (FinishFault place) l e (λ q. let z : _≡_ {A = ℕ} 0 1 = cc in omega arith) in
+        rw (read-fault onJump jumped s sync place e) (omega arith)
+    go FinishShort e = rw (read-short onJump jumped s sync e) (omega arith)
 
-proper-search : (onJump : ℕ → ℕ → Outcome) (jumped : Bool) (s : List ℕ) (from : ℕ) → ((place to : ℕ) → Proper s (onJump place to)) → from ≤ length s → Proper s (searchFrom onJump jumped s from)
+proper-search : (onJump : ℕ → ℕ → Outcome) (jumped : Bool) (s : List ℕ) (from : ℕ) → ((place to : ℕ) → place ≤ length s → Proper s (onJump place to)) → from ≤ length s → Proper s (searchFrom onJump jumped s from)
 unfolding Proper
 proper-search onJump jumped s from h l = go (find (drop from s) from) refl
   where
     go : (f : Found) → find (drop from s) from ≡ f → Proper s (searchFrom onJump jumped s from)
     go (SyncAt sync) e = rw (search-found onJump jumped s from sync e) (proper-at onJump jumped s sync h (let w : (from ≤ sync) × (sync + 4 ≤ from + length (drop from s)) = find-within (drop from s) from sync e in omega (arith, length-drop from s)))
-    go NoSync e = rw (search-none onJump jumped s from e) tt
+    go NoSync e = rw (search-none onJump jumped s from e) (omega arith)
 
-proper-jump : (left : ℕ) (s : List ℕ) (place to : ℕ) → Proper s (jump left s place to)
+proper-jump : (left : ℕ) (s : List ℕ) (place to : ℕ) → place ≤ length s → Proper s (jump left s place to)
 unfolding Proper jump
-proper-jump zero s place to = tt
-proper-jump (suc left) s place to = go (ltb to (length s)) refl (proper-jump left s)
+proper-jump zero s place to within = within
+proper-jump (suc left) s place to within = go (ltb to (length s)) refl (proper-jump left s)
   where
-    go : (b : Bool) → ltb to (length s) ≡ b → ((p t : ℕ) → Proper s (jump left s p t)) → Proper s (jump (suc left) s place to)
+    go : (b : Bool) → ltb to (length s) ≡ b → ((p t : ℕ) → p ≤ length s → Proper s (jump left s p t)) → Proper s (jump (suc left) s place to)
     go true e ih = rw (e, jump) (proper-search (jump left s) true s to ih (le-of-lt (ltb-true to (length s) e)))
-    go false e ih = rw (e, jump) tt
+    go false e ih = rw (e, jump) within
 
 pub proper : (left : ℕ) (jumped : Bool) (s : List ℕ) (from : ℕ) → from ≤ length s → Proper s (readFrom left jumped s from)
 proper left jumped s from l = proper-search (jump left s) jumped s from (proper-jump left s) l

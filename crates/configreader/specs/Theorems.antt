@@ -1,4 +1,4 @@
--- What is proved of the reader: where an image loads, what a reading depends on and how short it can be, what a search passes over, and where segment 1's words lead.
+-- What is proved of the reader: where an image loads, what a reading depends on and how short it can be, where a fault lies, what a search passes over, and where segment 1's words lead.
 use Prim.Native.Nat.{ℕ, suc, _+_, _^_, _<_, _≤_}
 use mathlib.Core.Path.{_≡_}
 use mathlib.Core.Bool.{Bool, true, false}
@@ -8,7 +8,7 @@ use Rattle.framing.specs.Search.{syncBytes, beginsWith}
 use Rattle.framing.specs.Words.{wordAt}
 use Rattle.packets.specs.Trace.{contents}
 use Rattle.configreader.specs.Configreader.{readFrom, readAlone, listed}
-use Rattle.configreader.specs.Types.{Loaded}
+use Rattle.configreader.specs.Types.{Loaded, OutcomeIprog, Stuck}
 
 -- The bytes hold, d further on, what an image has from a place to an end.
 pub record HoldsPart (bytes : List ℕ) (d : ℕ) (image : List ℕ) (from end : ℕ) : Type 0 where
@@ -42,6 +42,11 @@ pub record ShortestReading : Type 0 where
       (sync + 12 ≤ end) × (end ≤ length bytes)
   -- and these 12 bytes are Loaded.
   pub of-twelve : readAlone twelveBytes ≡ Loaded 0 12 1 false
+
+-- The place of a fault lies within what is read, or is its length.
+pub record FaultsWithin : Type 0 where
+  pub stuck : (left : ℕ) (jumped : Bool) (bytes : List ℕ) (from place : ℕ) → from ≤ length bytes → readFrom left jumped bytes from ≡ Stuck place → place ≤ length bytes
+  pub iprog : (left : ℕ) (jumped : Bool) (bytes : List ℕ) (from place : ℕ) → from ≤ length bytes → readFrom left jumped bytes from ≡ OutcomeIprog place → place ≤ length bytes
 
 -- No sync word begins at any of the k places from a place on.
 abbrev pub NoneIn : List ℕ → ℕ → ℕ → Type 0

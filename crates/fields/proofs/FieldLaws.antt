@@ -57,7 +57,7 @@ pub length-step : (n : ℕ) → 10 ≤ n → length (decimal n) ≡ length (deci
 length-step n h = ap (λ (s : List ℕ). length s) (decimal-step n h) ∙ length-append (decimal (n / 10)) ((48 + n % 10) ∷ [])
 
 -- A number below a power of ten has at most so many digits.
-length-below : (k n : ℕ) → n < 10 ^ suc k → length (decimal n) ≤ suc k
+pub length-below : (k n : ℕ) → n < 10 ^ suc k → length (decimal n) ≤ suc k
 length-below zero n h = let l : n < 10 = h in omega (arith, length-small n l)
 length-below (suc k) n h = go (ltb n 10) refl (length-below k (n / 10))
   where

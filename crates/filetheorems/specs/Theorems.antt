@@ -1,5 +1,5 @@
 -- What is proved of the functions for files, lists and reports: a host that goes through a list with `tealsettle_next_write` gets what `tealsettle_write` answers, write by write; how large a buffer a report needs; and that MCS text is told as text.
-use Prim.Native.Nat.{ℕ, zero, suc, _+_, _*_, _^_, _<_, _≤_}
+use Prim.Native.Nat.{ℕ, zero, suc, _+_, _*_, _<_, _≤_}
 use mathlib.Core.Path.{_≡_}
 use mathlib.Core.List.{List}
 use lib.ListN.{length}
@@ -54,10 +54,10 @@ pub record HostLists : Type 0 where
   pub chip-refused : (kind : ℕ) (chip bytes : List ℕ) → (listingCall kind chip .number ≡ 0 → ⊥) → (k : ℕ) → nthFrom bytes (listingCall kind chip) k .found ≡ 0
   pub image-refused : (kind : ℕ) (image bytes : List ℕ) → (imageListingCall kind image .number ≡ 0 → ⊥) → (k : ℕ) → nthFrom bytes (imageListingCall kind image) k .found ≡ 0
 
--- A buffer of 27 bytes for each write that `tealsettle_boot` counts, a number of 64 bits, and 64 more has room for the report.
+-- A buffer of 27 bytes for each write that `tealsettle_boot` counts, and 64 more, has room for the report.
 abbrev pub ReportFits : Type 0
 ReportFits =
-    (chip buffer : List ℕ) → bootResult (bootAnswer spi chip) .number ≡ 0 → bootResult (bootAnswer spi chip) .writes < 2 ^ 64 → 27 * bootResult (bootAnswer spi chip) .writes + 64 ≤ length buffer →
+    (chip buffer : List ℕ) → bootResult (bootAnswer spi chip) .number ≡ 0 → 27 * bootResult (bootAnswer spi chip) .writes + 64 ≤ length buffer →
     reportCall spiNumber chip buffer .number ≡ 0
 
 -- A text that `tealsettle_mcs_read` reads, into a buffer that is large enough, is told as text by `tealsettle_file_form`.

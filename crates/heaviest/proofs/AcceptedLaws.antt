@@ -6,6 +6,7 @@ use mathlib.Core.Logic.{⊎-elim}
 use mathlib.Core.List.{List, [], _∷_, _++_}
 use native.Mathlib.Nat.{zero-add}
 use native.Mathlib.Omega.{arith}
+use borrow.Author.Tests.{le-leb, lt-leb}
 use lib.ListN.{length, drop, replicate, length-replicate}
 use Rattle.base.specs.Question.{ask}
 use Rattle.base.proofs.Laws.{below-or-not}
@@ -131,13 +132,14 @@ module _ (n : ℕ) (allowed : heaviestLengthAllowed n ≡ true) where
 
 -- NONE HAS MORE. Of the words after a sync word, which are one fewer at least than all, one is no write, and of more than 2,048 another.
 most-of : (w after writes : ℕ) → after + 1 ≤ w → writes + 1 ≤ after → (2049 ≤ after → writes + 2 ≤ after) → writes ≤ mostIn w
+unfolding mostIn
 most-of w after writes fewer one two = ⊎-elim many few (below-or-not 2049 w)
   where
     many : 2049 < w → writes ≤ mostIn w
-    many h = let m = most-many w h in ⊎-elim (λ less. omega arith) (λ more. let t = two more in omega arith) (below-or-not after 2049)
+    many h = rw (lt-leb w 2049 h, mostIn) (⊎-elim (λ less. omega arith) (λ more. let t = two more in omega arith) (below-or-not after 2049))
 
     few : w ≤ 2049 → writes ≤ mostIn w
-    few h = let m = most-few w h in omega arith
+    few h = rw (le-leb w 2049 h, mostIn) (omega arith)
 
 reading-most : (left : ℕ) (jumped : Bool) (bytes : List ℕ) (from sync end writes : ℕ) (after : Bool) → from ≤ length bytes → readFrom left jumped bytes from ≡ Loaded sync end writes after → writes ≤ mostWrites (length bytes)
 unfolding Proper

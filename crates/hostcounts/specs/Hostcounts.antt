@@ -1,4 +1,4 @@
--- The functions that a C host calls, each as one definition for what it returns. Here: how a run's orders are counted. The calls that count switch words take no kind, and are defined in `outcomes`.
+-- The functions that a C host calls, each as one definition for what it returns. Here: how a run's orders are counted. The calls that count switch words or writes take no kind, and are defined in `outcomes` and in `heaviest`.
 use Prim.Native.Nat.{ℕ}
 use Rattle.results.specs.Kinds.{askKind}
 use Rattle.base.specs.Refusal.{badChipLength, badState}

@@ -1,17 +1,22 @@
 // Functions that a printer's C host calls on numbers alone (include/tealsettle.h), in a library of their own beside
 // crates `host` and `hostfiles`: how many orders a run has, and the number of one of them; how many switch words a cut can
-// leave.
+// leave; how many writes an image can have.
 ghost use mathlib.Core.Path.{_≡_};
 ghost use Rattle.kind.specs.Layout.{layoutOf};
 ghost use Rattle.kind.specs.Spi.{spi};
+ghost use Rattle.heaviest.specs.Heaviest.{mostAnswer};
 ghost use Rattle.outcomes.specs.Outcomes.{programCounts, eraseCounts};
+ghost use Rattle.results.specs.Most.{mostResult};
 ghost use Rattle.runresults.specs.Run.{stateOf};
 ghost use Rattle.hostcounts.specs.Hostcounts.{totalCall, progressCall};
 use base::refusal;
+use heaviest::most_writes;
 use kind::spi::Spi;
 use outcomes::TealsettleCounts;
 use outcomes::after_erase;
 use outcomes::after_program;
+use results::most::TealsettleMost;
+use results::most::most_result;
 use runresults::counts::TealsettleProgress;
 use runresults::counts::TealsettleTotal;
 use runresults::counts::progress_result;
@@ -81,4 +86,12 @@ pub extern "C" fn tealsettle_after_erase(old_word: u32) -> TealsettleCounts
     ensures { λ r. ⌜ r ≡ eraseCounts spi «old_word» ⌝ }
 {
     after_erase(old_word)
+}
+
+// The greatest number of writes that an accepted image of `n` bytes can have.
+#[no_mangle]
+pub extern "C" fn tealsettle_most_writes(n: usize) -> TealsettleMost
+    ensures { λ r. ⌜ r ≡ mostResult (mostAnswer n) ⌝ }
+{
+    most_result(most_writes(n))
 }

@@ -51,7 +51,7 @@ unfolding joined prepend
 joined-before c [] = refl
 joined-before c (line ∷ lines) = refl
 
-joined-lines : (text : List ℕ) → joined (linesOf text) ≡ text
+pub joined-lines : (text : List ℕ) → joined (linesOf text) ≡ text
 unfolding joined
 joined-lines [] = ap joined lines-none
 joined-lines (c ∷ cs) = go (eqb c LF) refl (joined-lines cs)

@@ -3,4 +3,5 @@ pub mod ReadingLaws
 pub mod FillLaws
 pub mod AnswerLaws
 pub mod FileLaws
+pub mod RefusalLaws
 pub mod Laws

@@ -4,4 +4,5 @@ pub mod ShapeLaws
 pub mod DataLaws
 pub mod TextLaws
 pub mod RecordLaws
+pub mod NumberLaws
 pub mod Laws

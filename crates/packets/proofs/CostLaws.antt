@@ -8,6 +8,7 @@ use native.Mathlib.Omega.{arith}
 use lib.Dec.{eqb}
 use lib.ListN.{length}
 use Rattle.base.specs.Question.{ask}
+use Rattle.base.proofs.Laws.{either-way}
 use Rattle.packets.specs.Header.{field, registerOk, type1Of, type2Of, headOf, effectOf}
 use Rattle.packets.specs.Theorems.{HeadersCost}
 use Rattle.packets.specs.Trace.{Before, opened, other, Mode, header, payload, modeOf, afterHeader, trace, listOf}
@@ -61,9 +62,8 @@ CountFits (Type2 count) = Unit {0}
 CountFits BadHeader = Unit {0}
 
 unless-bad : (b : Bool) (rest : Header) → CountFits rest → CountFits (ask b BadHeader rest)
-unfolding CountFits ask
-unless-bad true rest h = h
-unless-bad false rest h = tt
+unfolding CountFits
+unless-bad b rest h = either-way CountFits b BadHeader rest tt h
 
 type1-count : (word : ℕ) → CountFits (type1Of word)
 unfolding CountFits type1Of

@@ -89,6 +89,22 @@ module _ (chip buffer : List ℕ) where
       let m : place ≡ 0 = cc in
       (rw (p .0, n, m) refl, rw (p .0) refl)
 
+-- The report of a chip that reads to Loaded is three parts, and so long.
+module _ (chip : List ℕ) (sync end writes : ℕ) (jumped : Bool) (reads : readChip chip ≡ Loaded sync end writes jumped) where
+  -- It lists as many writes as it counts.
+  pub count : length (listed chip (Loaded sync end writes jumped)) ≡ writes
+  count = listed-length 1 false chip 0 sync end writes jumped (omega arith) reads
+
+  pub parts : chipReport spi chip ≡ loadedLine jumped ++ writeLines (listed chip (Loaded sync end writes jumped)) ++ endLine end writes
+  unfolding reportOf
+  parts = ap (λ (o : Outcome). reportOf spi chip o) reads
+
+  pub loaded-length : length (chipReport spi chip) ≡ 14 + 27 * writes + (21 + length (decimal writes))
+  loaded-length =
+      let ws = listed chip (Loaded sync end writes jumped) in
+      ap (λ (text : List ℕ). length text) parts
+      ∙ omega (arith, length-append (loadedLine jumped ++ writeLines ws) (endLine end writes), length-append (loadedLine jumped) (writeLines ws), length-loaded jumped, length-writes ws, count, length-end end writes)
+
 -- A chip that loads passed question 1 and reads to Loaded.
 module _ (chip : List ℕ) (sync end writes : ℕ) (jumped : Bool) (boots : BootLoaded sync end writes jumped ≡ bootAnswer spi chip) where
   allowed : chipLengthAllowed (length chip) ≡ true
@@ -104,28 +120,12 @@ module _ (chip : List ℕ) (sync end writes : ℕ) (jumped : Bool) (boots : Boot
   unfolding Proper
   loaded-sync = (rw reads at (proper 1 false chip 0 (omega arith))) .0
 
-  -- It lists as many writes as it counts.
-  count : length (listed chip (Loaded sync end writes jumped)) ≡ writes
-  count = listed-length 1 false chip 0 sync end writes jumped (omega arith) reads
-
-  -- Its report is three parts,
-  parts : chipReport spi chip ≡ loadedLine jumped ++ writeLines (listed chip (Loaded sync end writes jumped)) ++ endLine end writes
-  unfolding reportOf
-  parts = ap (λ (o : Outcome). reportOf spi chip o) reads
-
-  -- and so long.
-  long : length (chipReport spi chip) ≡ 14 + 27 * writes + length (endLine end writes)
-  long =
-      let ws = listed chip (Loaded sync end writes jumped) in
-      ap (λ (text : List ℕ). length text) parts
-      ∙ omega (arith, length-append (loadedLine jumped ++ writeLines ws) (endLine end writes), length-append (loadedLine jumped) (writeLines ws), length-loaded jumped, length-writes ws, count)
-
   -- Without room for it the call refuses.
   pub loaded-small : (buffer : List ℕ) → leb (14 + 27 * writes + (21 + length (decimal writes))) (length buffer) ≡ false → (chipAnswer spi chip (length buffer) ≡ ReportRefused noRoom 0) × (chipOutput spi chip buffer ≡ buffer)
   loaded-small buffer h =
       let a = passed chip buffer allowed in
       let less : length buffer < 14 + 27 * writes + (21 + length (decimal writes)) = leb-false _ (length buffer) h in
-      let n = no-room (chipReport spi chip) buffer (omega (arith, long, length-end end writes)) in
+      let n = no-room (chipReport spi chip) buffer (omega (arith, loaded-length chip sync end writes jumped reads)) in
       (a .0 ∙ n .0, a .1 ∙ n .1)
 
   module _ (cursor : Cursor) (opened : cursor ≡ cursorAt (sync + 4) writes) where
@@ -141,7 +141,7 @@ module _ (chip : List ℕ) (sync end writes : ℕ) (jumped : Bool) (boots : Boot
     -- as many as were counted. So there is room for its lines where there is room for so many.
     pub loaded-room : (buffer : List ℕ) → leb (14 + 27 * writes + (21 + length (decimal writes))) (length buffer) ≡ true → 14 + 27 * length (remainingWrites chip cursor) + length (endLine end writes) ≤ length buffer
     loaded-room buffer h =
-        let n : length (remainingWrites chip cursor) ≡ writes = ap (λ (ws : List Write). length ws) given ∙ count in
+        let n : length (remainingWrites chip cursor) ≡ writes = ap (λ (ws : List Write). length ws) given ∙ count chip sync end writes jumped reads in
         let enough : 14 + 27 * writes + (21 + length (decimal writes)) ≤ length buffer = leb-true _ (length buffer) h in
         omega (arith, length-end end writes)
 
@@ -152,11 +152,11 @@ module _ (chip : List ℕ) (sync end writes : ℕ) (jumped : Bool) (boots : Boot
         (chipAnswer spi chip (length buffer) ≡ Written size) × (chipOutput spi chip buffer ≡ after)
     loaded-put buffer after size h e is =
         let a = passed chip buffer allowed in
-        let n : length (remainingWrites chip cursor) ≡ writes = ap (λ (ws : List Write). length ws) given ∙ count in
+        let n : length (remainingWrites chip cursor) ≡ writes = ap (λ (ws : List Write). length ws) given ∙ count chip sync end writes jumped reads in
         let text : loadedLine jumped ++ writeLines (remainingWrites chip cursor) ++ endLine end writes ≡ chipReport spi chip =
-        ap (λ (ws : List Write). loadedLine jumped ++ writeLines ws ++ endLine end writes) given ∙ sym parts in
+        ap (λ (ws : List Write). loadedLine jumped ++ writeLines ws ++ endLine end writes) given ∙ sym (parts chip sync end writes jumped reads) in
         let put : Put buffer 0 (chipReport spi chip) size after = record {
-          long = long ∙ omega arith;
+          long = loaded-length chip sync end writes jumped reads ∙ omega (arith, length-end end writes);
           room = omega (arith, loaded-room buffer h);
           is = is ∙ ap₂ (λ (l : List ℕ) (k : ℕ). paste buffer 0 l k) text (sym e);
         } in

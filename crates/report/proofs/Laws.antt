@@ -1,4 +1,4 @@
--- What programs may count on of a report, beside the contracts: it stands whole in the buffer.
+-- What programs may count on of a report, beside the contracts: how long it is, and that it stands whole in the buffer.
 use Prim.Native.Nat.{ℕ, _≤_}
 use mathlib.Core.Path.{_≡_}
 use mathlib.Core.Bool.{Bool, true, false}
@@ -10,6 +10,7 @@ use Rattle.base.specs.Question.{ask}
 use Rattle.report.specs.Refusal.{written}
 use Rattle.base.specs.Output.{frontFilled}
 use Rattle.report.specs.Types.{Written, ReportRefused}
+pub use Rattle.report.proofs.AnswerLaws.{loaded-length}
 
 pub written-within : (text buffer : List ℕ) (n : ℕ) → written text (length buffer) ≡ Written n → n ≤ length (frontFilled text buffer)
 unfolding written frontFilled ask

@@ -4,8 +4,10 @@ pub use Rattle.bootreader.specs.declared.boot.BootAnswer.{BootAnswer}
 pub use Rattle.bootreader.specs.declared.image.ImageAnswer.{ImageAnswer}
 pub use Rattle.mcs.specs.declared.reader.ReadAnswer.{ReadAnswer}
 pub use Rattle.builder.specs.declared.BuildAnswer.{BuildAnswer}
+pub use Rattle.heaviest.specs.declared.MostAnswer.{MostAnswer}
 pub use Rattle.results.specs.declared.boot.TealsettleBoot.{TealsettleBoot}
 pub use Rattle.results.specs.declared.boot.TealsettleImage.{TealsettleImage}
 pub use Rattle.results.specs.declared.boot.TealsettleWrite.{TealsettleWrite}
 pub use Rattle.results.specs.declared.build.TealsettleBuild.{TealsettleBuild}
+pub use Rattle.results.specs.declared.most.TealsettleMost.{TealsettleMost}
 pub use Rattle.results.specs.declared.text.TealsettleRead.{TealsettleRead}

@@ -1,7 +1,11 @@
 -- `main` is safe: what it prints stands whole in the buffer.
-use mathlib.Core.Path.{sym, _∙_}
+use Prim.Native.Nat.{ℕ, _≤_}
+use mathlib.Core.Path.{_≡_, sym, _∙_}
+use native.Mathlib.Omega.{arith}
+use lib.ListN.{length}
 use lib.Seq.{length-take-le}
 use Rattle.filereport.specs.Filereport.{fileReport}
+use Rattle.filereport.proofs.Laws.{reports-fit}
 use Rattle.report.proofs.Laws.{written-within}
 use borrow.Author.Needs.{needs}
 use Rattle.bootreport.proofs.main.Statement.{statement}
@@ -22,41 +26,30 @@ output-requires c κs = search needs
 array-share-prefix-text : tie.Need-array-share-prefix-text
 array-share-prefix-text c = search needs
 
-slice-aggregate-report : tie.Need-slice-aggregate-report
-slice-aggregate-report c = search needs
+slice-aggregate-whole-report : tie.Need-slice-aggregate-whole-report
+slice-aggregate-whole-report c = search needs
 
-slice-aggregate-report-2 : tie.Need-slice-aggregate-report-2
-slice-aggregate-report-2 c = search needs
+whole-report-requires : tie.Need-whole-report-requires
+whole-report-requires c κs = search needs
 
-report-requires : tie.Need-report-requires
-report-requires c κs = search needs
-
-enum-known-answer : tie.Need-enum-known-answer
-enum-known-answer c = search needs
+-- The report stands whole in the buffer.
+within : (c : tie.After-whole-report) → c .whole-report .result ≤ length (c .whole-report .last .1 .0)
+within c =
+    let out = c .before .before .before .output .result in
+    let fits = written-within (fileReport _) out _ (reports-fit .written _ (length out) (omega arith)) in
+    rw (c .whole-report .ensures .0, c .whole-report .ensures .1) fits
 
 array-share-prefix-out : tie.Need-array-share-prefix-out
-array-share-prefix-out c = rw (c .before .before .before .before .report .ensures .1) (written-within (fileReport _) (c .before .before .before .before .before .before .before .output .result) (c .before .answer .given .0 .0) (sym (c .before .before .before .before .report .ensures .0 .same) ∙ c .before .answer .given .1))
+array-share-prefix-out c = within c
 
 slice-aggregate-print : tie.Need-slice-aggregate-print
-slice-aggregate-print c = sym (length-take-le _ _ (rw (c .before .before .before .before .before .report .ensures .1) (written-within (fileReport _) (c .before .before .before .before .before .before .before .before .output .result) (c .before .before .answer .given .0 .0) (sym (c .before .before .before .before .before .report .ensures .0 .same) ∙ c .before .before .answer .given .1))))
+slice-aggregate-print c = sym (length-take-le _ _ (within (c .before)))
 
 print-requires : tie.Need-print-requires
 print-requires c κs = search needs
 
-enum-told : tie.Need-enum-told
-enum-told c = search needs
-
-slice-aggregate-print-2 : tie.Need-slice-aggregate-print-2
-slice-aggregate-print-2 c = search needs
-
-print-requires-2 : tie.Need-print-requires-2
-print-requires-2 c κs = search needs
-
 returns : tie.Need-returns
 returns c = search needs
-
-returns-2 : tie.Need-returns-2
-returns-2 c = search needs
 
 pub main-spec : {M : Type 1} → statement M
 main-spec =
@@ -67,15 +60,9 @@ main-spec =
     read-full-requires
     output-requires
     array-share-prefix-text
-    slice-aggregate-report
-    slice-aggregate-report-2
-    report-requires
-    enum-known-answer
+    slice-aggregate-whole-report
+    whole-report-requires
     array-share-prefix-out
     slice-aggregate-print
     print-requires
-    enum-told
-    slice-aggregate-print-2
-    print-requires-2
-    returns
-    returns-2)
+    returns)
