@@ -68,6 +68,7 @@ void make_type2s(uint8_t *chip);   /* type 2 packets of one word */
 void make_nops(uint8_t *chip);     /* no-operations */
 void make_commands(uint8_t *chip); /* packets of one word of CMD */
 void make_mixed(uint8_t *chip);    /* packets of 0 to 8 words of any register, and no-operations */
+void make_heaviest(uint8_t *chip); /* one packet of CMD, with as many words as there can be */
 void make_erased(uint8_t *chip);   /* FF */
 void make_noise(uint8_t *chip);    /* random bytes, no sync word */
 
@@ -87,6 +88,7 @@ void mcs_call_rows(void);
 void boot_rows(void);
 void image_rows(char *const *bitstreams, int count);
 void list_rows(void);
+void heaviest_rows(void);
 void update_rows(void);
 
 #endif

@@ -65,6 +65,7 @@ void boot_rows(void)
 {
     static const Job jobs[] = {
         {"boot: one long type 2 packet", make_long},
+        {"boot: most writes", make_heaviest},
         {"boot: packets of 1 word", make_ones},
         {"boot: packets of 2 words", make_twos},
         {"boot: packets of 3 words", make_threes},

@@ -65,6 +65,8 @@ void image_rows(char *const *bitstreams, int count)
     uint8_t *image = buffer(MIB16);
     make_long(image);
     image_row("image check: one long type 2 packet", image, MIB16);
+    make_heaviest(image);
+    image_row("image check: most writes", image, MIB16);
     make_ones(image);
     image_row("image check: packets of 1 word", image, MIB16);
     image_row("image check: plain, made", image, make_plain_bitstream(image));

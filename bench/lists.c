@@ -1,5 +1,5 @@
-/* All writes of a chip of 16 MiB, packets of one word, beside the reference: one by one, a call each; and as a report, for
- * which the reference lists them in memory first. */
+/* All writes of a chip of 16 MiB, packets of one word or as many as there can be, beside the reference: one by one, a call
+ * each; and as a report, for which the reference lists them in memory first. */
 #include "bench.h"
 
 #include <stdlib.h>
@@ -7,13 +7,11 @@
 #include "../include/tealsettle.h"
 #include "../reference/reference.h"
 
-enum { MOST_WRITES = MIB16 / 8 };
-
 typedef struct {
     const uint8_t *chip;
     ReferenceWrite *list;
     uint8_t *report;
-    size_t writes, words, places, report_length;
+    size_t most, writes, words, places, report_length;
 } Call;
 
 /* ---- One by one: how many there are, and the sums of their words and places ---- */
@@ -63,14 +61,14 @@ static int ours_report(void *context)
 {
     Call *c = context;
     c->report_length =
-        tealsettle_report(TEALSETTLE_SPI, c->chip, MIB16, c->report, TEALSETTLE_REPORT_ROOM(MOST_WRITES)).length;
+        tealsettle_report(TEALSETTLE_SPI, c->chip, MIB16, c->report, TEALSETTLE_REPORT_ROOM(c->most)).length;
     return 1;
 }
 
 static int reference_report_job(void *context)
 {
     Call *c = context;
-    ReferenceBoot boot = reference_boot_list(c->chip, MIB16, c->list, MOST_WRITES);
+    ReferenceBoot boot = reference_boot_list(c->chip, MIB16, c->list, c->most);
     c->report_length = reference_report(&boot, c->list, c->report);
     return 1;
 }
@@ -85,19 +83,26 @@ static Answer report_answer(void *context)
     return (Answer){{"length", "sum of bytes"}, {c->report_length, sum}};
 }
 
+static void chip_rows(const char *list_name, const char *report_name, const uint8_t *chip)
+{
+    size_t most = tealsettle_most_writes(MIB16).writes;
+    Call ours = {.chip = chip, .most = most, .report = buffer(TEALSETTLE_REPORT_ROOM(most))};
+    Call peer = {.chip = chip, .most = most, .report = buffer(TEALSETTLE_REPORT_ROOM(most)),
+                 .list = buffer(most * sizeof(ReferenceWrite))};
+    Row list = {list_name, MIB16, {"tealsettle", ours_list, list_answer, &ours}, {PLAIN_C, reference_list, list_answer, &peer}};
+    Row report = {report_name, MIB16, {"tealsettle", ours_report, report_answer, &ours},
+                  {PLAIN_C, reference_report_job, report_answer, &peer}};
+    table_row(&list);
+    table_row(&report);
+    free(ours.report), free(peer.report), free(peer.list);
+}
+
 void list_rows(void)
 {
     uint8_t *chip = buffer(MIB16);
     make_ones(chip);
-    Call ours = {.chip = chip, .report = buffer(TEALSETTLE_REPORT_ROOM(MOST_WRITES))};
-    Call peer = {.chip = chip, .report = buffer(TEALSETTLE_REPORT_ROOM(MOST_WRITES)),
-                 .list = buffer(MOST_WRITES * sizeof(ReferenceWrite))};
-    Row row = {"writes one by one: packets of 1 word", MIB16, {"tealsettle", ours_list, list_answer, &ours},
-               {PLAIN_C, reference_list, list_answer, &peer}};
-    table_row(&row);
-    row.name = "report: packets of 1 word";
-    row.ours = (Side){"tealsettle", ours_report, report_answer, &ours};
-    row.peer = (Side){PLAIN_C, reference_report_job, report_answer, &peer};
-    table_row(&row);
-    free(chip), free(ours.report), free(peer.report), free(peer.list);
+    chip_rows("writes one by one: packets of 1 word", "report: packets of 1 word", chip);
+    make_heaviest(chip);
+    chip_rows("writes one by one: most writes", "report: most writes", chip);
+    free(chip);
 }

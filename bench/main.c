@@ -29,6 +29,7 @@ static int reference(int runs, char *const *bitstreams, int count)
     boot_rows();
     image_rows(bitstreams, count);
     list_rows();
+    heaviest_rows();
     update_rows();
     table_end();
     return 0;

@@ -3,7 +3,10 @@
 #define _GNU_SOURCE
 #include "bench.h"
 
+#include <stdlib.h>
 #include <string.h>
+
+#include "../include/tealsettle.h"
 
 #define SYNC 0xAA995566u
 #define NOP 0x20000000u
@@ -177,6 +180,12 @@ void make_mixed(uint8_t *chip)
     while (words_left(&s, MIB16) >= 9)
         put_some(&s);
     end(&s, MIB16);
+}
+
+void make_heaviest(uint8_t *chip)
+{
+    if (tealsettle_heaviest_image(MIB16, chip, MIB16).number != 0)
+        exit(1);
 }
 
 void make_erased(uint8_t *chip)

@@ -25,8 +25,8 @@
  *
  * Where an answer depends on the kind of chip, `kind` is the first argument: TEALSETTLE_SPI. Any other
  * number is refused before all else, with 1 at 0, or with 7 at 0 where a run's state is given. (The specification
- * has no such question yet: docs/DECISIONS.md, 81.) The two calls that count switch words take none: their ON is that of an
- * SPI chip.
+ * has no such question yet: docs/DECISIONS.md, 81.) The calls that count switch words, and those for the image with most
+ * writes, take none: they are about SPI chips.
  *
  * A layout is three numbers: `length` (F), the chip's length; `update` (U), where its update area
  * begins; `area` (A), how long that is.
@@ -49,8 +49,8 @@ extern "C" {
 #endif
 
 /* The version of this header: as text, and as a number, its parts times 10,000, 100 and 1. */
-#define TEALSETTLE_VERSION "0.14.0"
-#define TEALSETTLE_VERSION_NUMBER 1400u
+#define TEALSETTLE_VERSION "0.15.0"
+#define TEALSETTLE_VERSION_NUMBER 1500u
 
 /* An answer that nobody looks at is a mistake: a refusal would go unnoticed. */
 #if defined(__GNUC__)
@@ -105,6 +105,7 @@ enum {
     TEALSETTLE_REFUSED_BAD_ADDRESS = 17,
     TEALSETTLE_REFUSED_BAD_END = 18,
     TEALSETTLE_REFUSED_NO_ROOM = 19,
+    TEALSETTLE_REFUSED_BAD_HEAVIEST_LENGTH = 29,
 };
 /* end of refusals */
 
@@ -155,6 +156,8 @@ static inline const char *tealsettle_refusal_words(uint32_t number)
         return "the end record is missing, or something follows it";
     case TEALSETTLE_REFUSED_NO_ROOM:
         return "what is to be written does not fit into the memory that is given for it";
+    case TEALSETTLE_REFUSED_BAD_HEAVIEST_LENGTH:
+        return "no image of this length can be accepted: one has 12 to 16,777,216 bytes";
     case TEALSETTLE_ABANDONED:
         return "the run was abandoned: a function of the flash's driver failed or is missing, or ended it";
     case TEALSETTLE_OTHER_PLACE:
@@ -640,6 +643,28 @@ TealsettleCounts tealsettle_after_program(uint32_t old_word, uint32_t ordered_wo
  * them ON; from 0 all 4,294,967,296; from erased only that one. */
 TEALSETTLE_MUST_USE
 TealsettleCounts tealsettle_after_erase(uint32_t old_word);
+
+/* ---- For the test rack: the image with most writes ----
+ *
+ * Of w words, n/4 rounded down, an accepted image of n bytes can have w - 2 as writes up to w = 2,049, and w - 3 beyond: the
+ * others are the sync word and one header, or two. No image that tealsettle_image_check accepts has more for its length, and
+ * nothing that tealsettle_boot counts on a chip of n bytes. */
+
+typedef struct {
+    uint32_t number; /* 0, or 29; of tealsettle_heaviest_image also 19 */
+    size_t place;    /* 0 */
+    size_t writes;   /* how many: 1 to 4,194,301 */
+} TealsettleMost;
+
+/* The greatest number of writes that an accepted image of n bytes can have: 12 to 16,777,216, or 29. */
+TEALSETTLE_MUST_USE
+TealsettleMost tealsettle_most_writes(size_t n);
+
+/* Such an image: n bytes at the front of `out`, and those after them stay as they were. It is the sync word, one packet of CMD
+ * whose words are 0 (no command) up to the last, which is DESYNC, and FF after the last whole word. tealsettle_image_check
+ * accepts it with as many writes as are told here. */
+TEALSETTLE_MUST_USE
+TealsettleMost tealsettle_heaviest_image(size_t n, uint8_t *out, size_t out_length);
 
 #ifdef __cplusplus
 }

@@ -152,6 +152,11 @@ typedef struct {
 ReferenceCounts reference_after_program(uint32_t old_word, uint32_t ordered_word);
 ReferenceCounts reference_after_erase(uint32_t old_word);
 
+/* ---- The greatest number of writes that an accepted image of n bytes can have, and such an image ---- */
+
+uint32_t reference_most_writes(size_t n, size_t *writes);
+uint32_t reference_heaviest_image(size_t n, uint8_t *out, size_t out_length, size_t *writes);
+
 /* ---- A run on a chip's bytes, cut in the order after the first `k` ---- */
 
 uint32_t reference_cut_run(uint8_t *chip, size_t chip_length, size_t update, size_t area, const uint8_t *image,

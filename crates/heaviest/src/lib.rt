@@ -1,11 +1,13 @@
 // The image with most writes, for its length, that is accepted, and how many it has.
 ghost use mathlib.Core.Path.{_≡_};
 ghost use mathlib.Core.List.{[], _∷_};
-ghost use Prim.Native.Nat.{_*_, _≤_};
-ghost use lib.ListN.{length, take};
+ghost use Prim.Native.Nat.{_+_, _≤_};
+ghost use lib.ListN.{length};
 ghost use Rattle.base.specs.Answer.{Gives};
 ghost use Rattle.base.specs.Output.{frontFilled};
 ghost use Rattle.framing.specs.Words.{bytesOfWords};
+ghost use Rattle.bootreader.specs.Image.{longestImage};
+ghost use Rattle.flash.specs.Flash.{overwriteInRange};
 ghost use Rattle.heaviest.specs.Heaviest.{shortestImage, heaviestLengthAllowed, mostIn, mostWrites, heaviestImage, mostNumbers, mostAnswer, heaviestAnswer, heaviestOutput};
 ghost use Rattle.heaviest.specs.Internal.{opening};
 use base::refusal;
@@ -50,48 +52,68 @@ fn most_in(words: usize) -> usize
     words - 3
 }
 
-// The sync word and two more, high byte first.
-fn three_words(second: usize, third: usize) -> [u8; 12]
-    ensures { λ r. ⌜ r ≡ bytesOfWords (0xAA995566 ∷ second ∷ third ∷ []) ⌝ }
+// The sync word and the packet's header, of type 1.
+fn one_header(writes: usize) -> [u8; 8]
+    requires { ⌜ writes ≤ longestImage ⌝ }
+    ensures { λ r. ⌜ r ≡ bytesOfWords (0xAA995566 ∷ (0x30008000 + writes) ∷ []) ⌝ }
 {
+    let header = 0x3000_8000 + writes;
     [
         0xAA,
         0x99,
         0x55,
         0x66,
-        (second / 16_777_216 % 256) as u8,
-        (second / 65_536 % 256) as u8,
-        (second / 256 % 256) as u8,
-        (second % 256) as u8,
-        (third / 16_777_216 % 256) as u8,
-        (third / 65_536 % 256) as u8,
-        (third / 256 % 256) as u8,
-        (third % 256) as u8,
+        (header / 16_777_216 % 256) as u8,
+        (header / 65_536 % 256) as u8,
+        (header / 256 % 256) as u8,
+        (header % 256) as u8,
     ]
 }
 
-// The sync word and the packet's headers. Where one header will do, what follows it here is not written.
-fn opening_of(words: usize, writes: usize) -> [u8; 12]
-    requires { ⌜ (writes ≡ mostIn words) × (words ≤ 4194304) ⌝ }
-    ensures { λ r. ⌜ take (length (opening words)) r ≡ opening words ⌝ }
+// The sync word, a type 1 header of count 0 and the type 2 header after it.
+fn two_headers(writes: usize) -> [u8; 12]
+    requires { ⌜ writes ≤ longestImage ⌝ }
+    ensures { λ r. ⌜ r ≡ bytesOfWords (0xAA995566 ∷ 0x30008000 ∷ (0x50000000 + writes) ∷ []) ⌝ }
+{
+    let header = 0x5000_0000 + writes;
+    [
+        0xAA,
+        0x99,
+        0x55,
+        0x66,
+        0x30,
+        0x00,
+        0x80,
+        0x00,
+        (header / 16_777_216 % 256) as u8,
+        (header / 65_536 % 256) as u8,
+        (header / 256 % 256) as u8,
+        (header % 256) as u8,
+    ]
+}
+
+// Writes what comes before the data words to the front of a buffer.
+fn put_opening(words: usize, writes: usize, out: &mut [u8])
+    requires { ⌜ (writes ≡ mostIn words) × (words ≤ longestImage) ⌝ }
+    ensures { λ r. ⌜ now (out .exit) ≡ overwriteInRange (now (out .entry)) 0 (length (opening words)) (opening words) ⌝ }
 {
     if words <= TYPE1_WORDS {
-        return three_words(0x3000_8000 + writes, 0);
+        let _ = overwrite(out, 0, &one_header(writes));
+    } else {
+        let _ = overwrite(out, 0, &two_headers(writes));
     }
-    three_words(0x3000_8000, 0x5000_0000 + writes)
 }
 
 // Writes the image into a buffer that it fits into: part after part, from the front.
 fn put_image(image_length: usize, writes: usize, out: &mut [u8])
-    requires { ⌜ (shortestImage ≤ «image_length») × («image_length» ≤ 16777216) × (writes ≡ mostWrites «image_length») × («image_length» ≤ length (now out)) ⌝ }
+    requires { ⌜ (shortestImage ≤ «image_length») × («image_length» ≤ longestImage) × (writes ≡ mostWrites «image_length») × («image_length» ≤ length (now out)) ⌝ }
     ensures { λ r. ⌜ now (out .exit) ≡ frontFilled (heaviestImage «image_length») (now (out .entry)) ⌝ }
 {
     let words = image_length / 4;
-    let opening = opening_of(words, writes);
     let data = 4 * (words - writes);
     let last = 4 * (words - 1);
-    // The spans lie within the buffer, so none of the four is refused.
-    let _ = overwrite(out, 0, &opening[..data]);
+    // The spans lie within the buffer, so that nothing here is refused.
+    put_opening(words, writes, out);
     let _ = fill(out, data, last - data, 0);
     let _ = overwrite(out, last, &DESYNC);
     let _ = erase(out, last + 4, image_length % 4);

@@ -1,0 +1,28 @@
+-- `two_headers` meets its contract.
+use mathlib.Core.Path.{refl}
+use borrow.Author.Needs.{needs}
+use Rattle.framing.specs.Words.{bytesOfWords}
+use Rattle.heaviest.proofs.two_headers.Statement.{statement}
+use Rattle.heaviest.proofs.two_headers.Tie as tie
+
+add-header : tie.Need-add-header
+add-header c = search needs
+
+cast-t5 : tie.Need-cast-t5
+cast-t5 c = search needs
+
+cast-t8 : tie.Need-cast-t8
+cast-t8 c = search needs
+
+cast-t11 : tie.Need-cast-t11
+cast-t11 c = search needs
+
+cast-t13 : tie.Need-cast-t13
+cast-t13 c = search needs
+
+returns : tie.Need-returns
+unfolding bytesOfWords
+returns c = refl
+
+pub two-headers-spec : {M : Type 1} → statement M
+two-headers-spec = tie.close (tie.spec add-header cast-t5 cast-t8 cast-t11 cast-t13 returns)
