@@ -12,6 +12,7 @@ ghost use Rattle.fastpath.specs.Fastpath.{PacketBegins, SkipKeeps};
 use base::min;
 use framing::words::word_at;
 use framing::words::words_from;
+use packets::header::CMD;
 use packets::header::NOP;
 use packets::header::is_type1_write;
 use packets::header::is_type2_write;
@@ -20,8 +21,12 @@ use scanner::scan::after_header;
 use scanner::scan::after_packet;
 use scanner::scan::count_plain_words;
 
+// Up to so many words of CMD are looked at here. A longer packet of it is left to the steps: where a word of it ends the
+// reading, those before it would be looked at twice.
+const FEW: usize = 16;
+
 // Whether all of a packet's data words can be passed at once: there are some, no more than `room`, and
-// none of them ends the reading.
+// none of them ends the reading. A yes is sure; after a no the steps decide.
 fn may_skip(s: &[u8], at: usize, register: u32, count: usize, room: usize) -> bool
     requires { ⌜ (count ≤ room → count ≤ length (words (drop at (now s)))) ⌝ }
     ensures { λ r. ⌜ (r ≡ true → (1 ≤ count) × (count ≤ room) × ((i : ℕ) → i < count → effectOf register (getD (words (drop at (now (s .entry)))) i 0) ≡ GoesOn)) ⌝ }
@@ -31,6 +36,9 @@ fn may_skip(s: &[u8], at: usize, register: u32, count: usize, room: usize) -> bo
     }
     if room < count {
         return false;
+    }
+    if FEW < count {
+        return register != CMD;
     }
     count_plain_words(s, at, register, count) == count
 }
