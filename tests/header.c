@@ -78,6 +78,10 @@ int main(void)
     good = good && tealsettle_list_next(1, list.cursor, chip, sizeof chip).number == TEALSETTLE_REFUSED_BAD_CHIP_LENGTH;
     TealsettleCounts programmed = tealsettle_after_program(0xFFFFFFFFu, 0xAA995566u), erased = tealsettle_after_erase(0);
     good = good && programmed.words == 65536 && programmed.on == 1 && erased.words == UINT64_C(4294967296) && erased.on == 1;
+    TealsettleMost most = tealsettle_most_writes(sizeof chip), heaviest = tealsettle_heaviest_image(sizeof chip, chip, sizeof chip);
+    TealsettleImage loaded = tealsettle_image_check(TEALSETTLE_SPI, chip, sizeof chip);
+    good = good && most.number == 0 && most.writes == sizeof chip / 4 - 3 && heaviest.writes == most.writes;
+    good = good && loaded.number == 0 && loaded.writes == most.writes;
     memset(chip, 0, sizeof chip);
     boot = tealsettle_boot(TEALSETTLE_SPI, chip, sizeof chip);
     good = good && boot.number == 0 && !tealsettle_loads(boot) && !tealsettle_loads(tealsettle_boot(1, chip, sizeof chip));

@@ -125,7 +125,9 @@ static void take_operand(const Command *command, Arguments *arguments, int count
 {
     if (count == command->files + command->words)
         wrong_use(command, operand, command->words ? "is a word too many" : "is a file too many");
-    if (command->words)
+    if (command->numbers)
+        arguments->words[count] = read_number(command, "N", operand);
+    else if (command->words)
         arguments->words[count] = read_switch_word(command, operand);
     else
         arguments->files[count] = operand;
@@ -141,7 +143,7 @@ static void check_needed(const Command *command, const Arguments *arguments, int
     if (operands < command->files)
         wrong_use(command, "files", "a name is missing");
     if (operands < command->words - command->optional)
-        wrong_use(command, "switch word", "is missing");
+        wrong_use(command, command->numbers ? "N" : "switch word", "is missing");
 }
 
 /* Standard input can be read once. */

@@ -7,7 +7,7 @@
 
 static const Command *const commands[] = {
     &report_command, &switch_command, &check_command, &image_command, &build_command, &update_command, &cut_command,
-    &outcomes_command,
+    &outcomes_command, &heaviest_command,
 };
 enum { COMMANDS = sizeof commands / sizeof *commands };
 

@@ -42,7 +42,7 @@ typedef struct {
     bool writes;                         /* -w */
     const char *output;                  /* -o; or null */
     const char *files[MOST_FILES];       /* in the order of the usage line, */
-    Number words[MOST_WORDS];            /* and so are switch words */
+    Number words[MOST_WORDS];            /* and so are switch words, or numbers */
 } Arguments;
 
 typedef struct {
@@ -54,7 +54,8 @@ typedef struct {
     const char *needed;  /* and of those that must be given */
     int files;           /* how many file names it takes; */
     int words;           /* or how many switch words, */
-    int optional;        /* of which this many, the last, may be left out */
+    int optional;        /* of which this many, the last, may be left out; */
+    bool numbers;        /* or the words are numbers */
     int (*run)(const Arguments *);
 } Command;
 
@@ -185,6 +186,6 @@ void end_progress(void);
 /* ---- The commands ---- */
 
 extern const Command report_command, switch_command, check_command, image_command, build_command, update_command, cut_command,
-    outcomes_command;
+    outcomes_command, heaviest_command;
 
 #endif

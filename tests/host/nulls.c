@@ -52,6 +52,8 @@ static void try_chips(void)
 
 static void try_builds(void)
 {
+    expect("heaviest_image", tealsettle_heaviest_image(12, NULL, 0).number, TEALSETTLE_REFUSED_NO_ROOM);
+    expect("heaviest_image, of no length", tealsettle_heaviest_image(11, NULL, 0).number, TEALSETTLE_REFUSED_BAD_HEAVIEST_LENGTH);
     expect("build, golden", tealsettle_build(TEALSETTLE_SPI, sizeof chip, 12288, 4096, NULL, 0, chip, sizeof chip).number,
            TEALSETTLE_REFUSED_BAD_IMAGE_LENGTH);
     expect("build, out", tealsettle_build(TEALSETTLE_SPI, sizeof chip, 12288, 4096, image, sizeof image, NULL, 0).number,
