@@ -47,9 +47,9 @@ static void heaviest_row(const char *name, uint8_t *ours_out, uint8_t *peer_out,
 void heaviest_rows(void)
 {
     uint8_t *ours = buffer(MIB16), *peer = buffer(MIB16);
-    heaviest_row("image with most writes", ours, peer, MIB16);
-    heaviest_row("image with most writes", ours, peer, 65536);
-    heaviest_row("image with most writes", ours, peer, 4096);
+    heaviest_row("image with most writes, 16 MiB", ours, peer, MIB16);
+    heaviest_row("image with most writes, 64 KiB", ours, peer, 64 << 10);
+    heaviest_row("image with most writes, 4 KiB", ours, peer, 4 << 10);
     free(ours);
     free(peer);
 }

@@ -25,7 +25,7 @@ use Rattle.bootreader.proofs.Laws.{accepts, accepted-reads, booted}
 use Rattle.heaviest.specs.Heaviest.{shortestImage, heaviestLengthAllowed, mostIn, mostWrites, heaviestHeaders, heaviestImage}
 use Rattle.heaviest.specs.Theorems.{MostWrites, NothingLoadsMore}
 use Rattle.heaviest.specs.Types.{SyncAt, Type1, Type2, FinishEnded, Loaded, BootLoaded, Accepted}
-use Rattle.heaviest.proofs.ImageLaws.{allowed-range, most-few, most-many, headers-few, headers-many, divided, image-length}
+use Rattle.heaviest.proofs.ImageLaws.{allowed-range, most-few, most-many, by-headers, divided, image-length}
 
 -- THE PACKET. Its data words: 0 lets the reading go on, and DESYNC ends it.
 data-reads : (k place writes wbstar : ℕ) → finish (trace (replicate k 0 ++ (DESYNC ∷ [])) place (payload CMD k)) writes wbstar ≡ FinishEnded (place + 4 * k + 4) (writes + k + 1)
@@ -63,20 +63,11 @@ many-reads k place h =
 
 -- From a place just after the sync word, the packet ends with the last whole word.
 packet-reads : (w place : ℕ) → 3 ≤ w → w ≤ 4194304 → finish (trace (heaviestHeaders w ++ (replicate (mostIn w - 1) 0 ++ (DESYNC ∷ []))) place (header other)) 0 0 ≡ FinishEnded (place + 4 * (w - 1)) (mostIn w)
-packet-reads w place long small = ⊎-elim many few (below-or-not 2049 w)
-  where
-    one-less : suc (mostIn w - 1) ≡ mostIn w
-    one-less = let d = divided w long in omega arith
-
-    many : 2049 < w → finish (trace (heaviestHeaders w ++ (replicate (mostIn w - 1) 0 ++ (DESYNC ∷ []))) place (header other)) 0 0 ≡ FinishEnded (place + 4 * (w - 1)) (mostIn w)
-    many h =
-        let m = most-many w h in
-        rw (headers-many w h) (rw one-less at (many-reads (mostIn w - 1) place (omega arith)) ∙ ap₂ FinishEnded (omega arith) (omega arith))
-
-    few : w ≤ 2049 → finish (trace (heaviestHeaders w ++ (replicate (mostIn w - 1) 0 ++ (DESYNC ∷ []))) place (header other)) 0 0 ≡ FinishEnded (place + 4 * (w - 1)) (mostIn w)
-    few h =
-        let m = most-few w h in
-        rw (headers-few w h) (rw one-less at (few-reads (mostIn w - 1) place (omega arith)) ∙ ap₂ FinishEnded (omega arith) (omega arith))
+packet-reads w place long small =
+    let one-less : suc (mostIn w - 1) ≡ mostIn w = let d = divided w long in omega arith in
+    by-headers w (λ headers. finish (trace (headers ++ (replicate (mostIn w - 1) 0 ++ (DESYNC ∷ []))) place (header other)) 0 0 ≡ FinishEnded (place + 4 * (w - 1)) (mostIn w))
+    (λ few. let m = most-few w few in rw one-less at (few-reads (mostIn w - 1) place (omega arith)) ∙ ap₂ FinishEnded (omega arith) (omega arith))
+    (λ many. let m = most-many w many in rw one-less at (many-reads (mostIn w - 1) place (omega arith)) ∙ ap₂ FinishEnded (omega arith) (omega arith))
 
 -- THE IMAGE'S WORDS are read back from its bytes.
 data-words : (k : ℕ) (rest : List ℕ) → length rest < 4 → words (bytesOfWords (replicate k 0 ++ (DESYNC ∷ [])) ++ rest) ≡ replicate k 0 ++ (DESYNC ∷ [])
@@ -90,19 +81,13 @@ data-words (suc k) rest h = ap (λ (l : List ℕ). 0 ∷ l) (data-words k rest h
 
 header-words : (w : ℕ) (data′ rest : List ℕ) → 3 ≤ w → w ≤ 4194304 → words (bytesOfWords data′ ++ rest) ≡ data′ → words (bytesOfWords (heaviestHeaders w ++ data′) ++ rest) ≡ heaviestHeaders w ++ data′
 unfolding bytesOfWords
-header-words w data′ rest long small e = ⊎-elim many few (below-or-not 2049 w)
+header-words w data′ rest long small e =
+    by-headers w (λ headers. words (bytesOfWords (headers ++ data′) ++ rest) ≡ headers ++ data′)
+    (λ few. let m = most-few w few in first (0x30008000 + mostIn w) data′ (omega arith) e)
+    (λ many. let m = most-many w many in first 0x30008000 ((0x50000000 + mostIn w) ∷ data′) (omega arith) (first (0x50000000 + mostIn w) data′ (omega arith) e))
   where
-    many : 2049 < w → words (bytesOfWords (heaviestHeaders w ++ data′) ++ rest) ≡ heaviestHeaders w ++ data′
-    many h =
-        let m = most-many w h in
-        rw (headers-many w h)
-        (words-first 0x30008000 (bytesOfWords ((0x50000000 + mostIn w) ∷ data′) ++ rest) (omega arith)
-        ∙ ap (λ (l : List ℕ). 0x30008000 ∷ l) (words-first (0x50000000 + mostIn w) (bytesOfWords data′ ++ rest) (omega arith) ∙ ap (λ (l : List ℕ). (0x50000000 + mostIn w) ∷ l) e))
-
-    few : w ≤ 2049 → words (bytesOfWords (heaviestHeaders w ++ data′) ++ rest) ≡ heaviestHeaders w ++ data′
-    few h =
-        let m = most-few w h in
-        rw (headers-few w h) (words-first (0x30008000 + mostIn w) (bytesOfWords data′ ++ rest) (omega arith) ∙ ap (λ (l : List ℕ). (0x30008000 + mostIn w) ∷ l) e)
+    first : (word : ℕ) (more : List ℕ) → word < 2 ^ 32 → words (bytesOfWords more ++ rest) ≡ more → words (bytesOfWords (word ∷ more) ++ rest) ≡ word ∷ more
+    first word more h e = words-first word (bytesOfWords more ++ rest) h ∙ ap (λ (l : List ℕ). word ∷ l) e
 
 module _ (n : ℕ) (allowed : heaviestLengthAllowed n ≡ true) where
   found : find (drop 0 (heaviestImage n)) 0 ≡ SyncAt 0

@@ -43,13 +43,16 @@ module _ (words : ℕ) where
   unfolding heaviestHeaders
   headers-many h = rw (lt-leb words 2049 h, heaviestHeaders)
 
+  -- What holds of one header, and of two, holds of the headers.
+  pub by-headers : (P : List ℕ → Type 0) → (words ≤ 2049 → P ((0x30008000 + mostIn words) ∷ [])) → (2049 < words → P (0x30008000 ∷ (0x50000000 + mostIn words) ∷ [])) → P (heaviestHeaders words)
+  by-headers P few many = ⊎-elim (λ h. rw (headers-many h) (many h)) (λ h. rw (headers-few h) (few h)) (below-or-not 2049 words)
+
   -- The words are the sync word, the headers and the writes.
   pub divided : 3 ≤ words → (1 ≤ mostIn words) × (1 + length (heaviestHeaders words) + mostIn words ≡ words)
   divided h =
-      ⊎-elim
-      (λ many. let m = most-many many in let n : length (heaviestHeaders words) ≡ 2 = ap (λ (l : List ℕ). length l) (headers-many many) in (omega arith, omega arith))
-      (λ few. let m = most-few few in let n : length (heaviestHeaders words) ≡ 1 = ap (λ (l : List ℕ). length l) (headers-few few) in (omega arith, omega arith))
-      (below-or-not 2049 words)
+      by-headers (λ headers. (1 ≤ mostIn words) × (1 + length headers + mostIn words ≡ words))
+      (λ few. let m = most-few few in (omega arith, omega arith))
+      (λ many. let m = most-many many in (omega arith, omega arith))
 
   pub opening-length : 3 ≤ words → length (opening words) ≡ 4 * (words - mostIn words)
   opening-length h = let n = bytes-words-length (0xAA995566 ∷ heaviestHeaders words) in let d = divided h in omega arith

@@ -17,7 +17,7 @@ use Rattle.heaviest.specs.Types.{MostAnswer, Most, MostRefused}
 abbrev pub shortestImage : ℕ
 shortestImage = 12
 
--- In place of question 4: does an image of n bytes exist, from 12 to 16,777,216?
+-- In place of question 4: can an accepted image have n bytes, 12 to 16,777,216?
 unfoldable pub heaviestLengthAllowed : ℕ → Bool
 heaviestLengthAllowed n = ask (leb shortestImage n) false (leb n longestImage)
 

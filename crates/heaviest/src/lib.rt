@@ -1,4 +1,4 @@
-// The image with most writes, for its length, that is accepted, and how many it has.
+// The accepted image with most writes for its length, and how many it has.
 ghost use mathlib.Core.Path.{_≡_};
 ghost use mathlib.Core.List.{[], _∷_};
 ghost use Prim.Native.Nat.{_+_, _≤_};
@@ -31,7 +31,7 @@ pub enum MostAnswer {
     Refused { number: u32, place: usize },
 }
 
-// Is there an accepted image of this length?
+// Can an accepted image have this length?
 fn length_allowed(length: usize) -> bool
     ensures { λ r. ⌜ r ≡ heaviestLengthAllowed length ⌝ }
 {
