@@ -1,6 +1,6 @@
 -- How long the report of an image file can be.
-use Prim.Native.Nat.{ℕ, _+_, _-_, _^_, _<_, _≤_}
-use mathlib.Core.Path.{_≡_, refl, ap}
+use Prim.Native.Nat.{ℕ, _+_, _-_, _≤_}
+use mathlib.Core.Path.{_≡_, refl}
 use mathlib.Core.Bool.{Bool, true, false}
 use mathlib.Core.List.{List}
 use native.Mathlib.Omega.{arith}
@@ -18,7 +18,6 @@ use Rattle.mcs.specs.Reading.{Reading, Holds, Refused, readText}
 use Rattle.mcs.proofs.Laws.{text-refusals, holds-room}
 use Rattle.builder.specs.Builder.{builtChip, buildAnswer}
 use Rattle.builder.proofs.Laws.{questions, allowed-refusals, built-loads}
-use Rattle.fields.specs.Fields.{decimal}
 use Rattle.fields.proofs.Laws.{length-below}
 use Rattle.reportlines.specs.Reportlines.{refusedLine}
 use Rattle.reportlines.proofs.Laws.{length-refused}

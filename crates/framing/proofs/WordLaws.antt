@@ -4,7 +4,7 @@ use mathlib.Core.Path.{_≡_, refl, sym, ap, _∙_}
 use mathlib.Core.List.{List, [], _∷_, _++_, append-assoc}
 use native.Mathlib.Nat.{add-zero}
 use native.Mathlib.Omega.{arith}
-use lib.ListN.{length, getD, drop, replicate, length-drop, length-append}
+use lib.ListN.{length, getD, drop, replicate, length-drop}
 use lib.Seq.{drop-cons, getD-drop, drop-drop}
 use Rattle.framing.specs.Words.{words, bytesOf, bytesOfWords}
 

@@ -1,6 +1,6 @@
 -- The image is accepted with the number of writes, and nothing that loads has more.
 use Prim.Native.Nat.{ℕ, zero, suc, _+_, _-_, _*_, _/_, _%_, _^_, _<_, _≤_}
-use mathlib.Core.Path.{_≡_, refl, sym, ap, ap₂, _∙_}
+use mathlib.Core.Path.{_≡_, refl, ap, ap₂, _∙_}
 use mathlib.Core.Bool.{Bool, true, false}
 use mathlib.Core.Logic.{⊎-elim}
 use mathlib.Core.List.{List, [], _∷_, _++_}
@@ -22,7 +22,7 @@ use Rattle.kind.specs.Spi.{spi}
 use Rattle.bootreader.specs.Boot.{bootAnswer}
 use Rattle.bootreader.specs.Image.{longestImage, imageAnswer}
 use Rattle.bootreader.proofs.Laws.{accepts, accepted-reads, booted}
-use Rattle.heaviest.specs.Heaviest.{shortestImage, heaviestLengthAllowed, mostIn, mostWrites, heaviestHeaders, heaviestImage}
+use Rattle.heaviest.specs.Heaviest.{heaviestLengthAllowed, mostIn, mostWrites, heaviestHeaders, heaviestImage}
 use Rattle.heaviest.specs.Theorems.{MostWrites, NothingLoadsMore}
 use Rattle.heaviest.specs.Types.{SyncAt, Type1, Type2, FinishEnded, Loaded, BootLoaded, Accepted}
 use Rattle.heaviest.proofs.ImageLaws.{allowed-range, most-few, most-many, by-headers, divided, image-length}

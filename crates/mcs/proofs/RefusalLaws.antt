@@ -9,7 +9,7 @@ use Rattle.base.specs.Refusal.{badLine, badEnd}
 use Rattle.mcsline.specs.Record.{Data, ExtendedLinearAddress, End}
 use Rattle.mcsline.specs.Line.{Parsed, Is, Refuses, parsed}
 use Rattle.mcsline.proofs.Laws.{refused-number}
-use Rattle.mcs.specs.Reading.{follows, linesOf, isEmpty, Reading, Holds, Refused, readLines, readText}
+use Rattle.mcs.specs.Reading.{follows, linesOf, isEmpty, Reading, Holds, Refused, readLines}
 use Rattle.mcs.specs.Theorems.{TextRefusals}
 use Rattle.mcs.proofs.FileLaws.{joined, joined-lines}
 use Rattle.mcs.proofs.ReadingLaws.{read-none, read-refused, read-apart, read-data, read-upper, read-end, read-more}
