@@ -2,7 +2,6 @@
 #include "bench.h"
 
 #include <stdlib.h>
-#include <string.h>
 
 #include "../include/tealsettle.h"
 #include "../reference/reference.h"

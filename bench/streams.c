@@ -3,7 +3,6 @@
 #define _GNU_SOURCE
 #include "bench.h"
 
-#include <stdlib.h>
 #include <string.h>
 
 #include "../include/tealsettle.h"
@@ -185,7 +184,7 @@ void make_mixed(uint8_t *chip)
 void make_heaviest(uint8_t *chip)
 {
     if (tealsettle_heaviest_image(MIB16, chip, MIB16).number != 0)
-        exit(1);
+        fail("heaviest image");
 }
 
 void make_erased(uint8_t *chip)

@@ -647,8 +647,8 @@ TealsettleCounts tealsettle_after_erase(uint32_t old_word);
 /* ---- For the test rack: the image with most writes ----
  *
  * Of w words, n/4 rounded down, an accepted image of n bytes can have w - 2 as writes up to w = 2,049, and w - 3 beyond: the
- * others are the sync word and one header, or two. No image that tealsettle_image_check accepts has more for its length, and
- * nothing that tealsettle_boot counts on a chip of n bytes. */
+ * others are the sync word and one header, or two. No image that tealsettle_image_check accepts has more for its length, nor does
+ * tealsettle_boot count more on a chip of n bytes. */
 
 typedef struct {
     uint32_t number; /* 0, or 29; of tealsettle_heaviest_image also 19 */
@@ -656,7 +656,7 @@ typedef struct {
     size_t writes;   /* how many: 1 to 4,194,301 */
 } TealsettleMost;
 
-/* The greatest number of writes that an accepted image of n bytes can have: 12 to 16,777,216, or 29. */
+/* The greatest number of writes that an accepted image of n bytes can have. n is 12 to 16,777,216; any other gets 29. */
 TEALSETTLE_MUST_USE
 TealsettleMost tealsettle_most_writes(size_t n);
 

@@ -10,10 +10,8 @@ enum { JUMP_WORDS = 5 };
 static void put_jump(uint8_t *segment, size_t update)
 {
     const uint32_t words[JUMP_WORDS] = {0x30020001u, (uint32_t)update, 0x30008001u, 0x0000000Fu, 0x20000000u};
-    for (size_t i = 0; i < JUMP_WORDS; i++) {
-        uint32_t high_first = __builtin_bswap32(words[i]);
-        memcpy(segment + 4 * i, &high_first, 4);
-    }
+    for (size_t i = 0; i < JUMP_WORDS; i++)
+        reference_put_word(segment + 4 * i, words[i]);
 }
 
 uint32_t reference_build(size_t length, size_t update, size_t area, const uint8_t *golden, size_t golden_length,

@@ -1,18 +1,26 @@
 /* The specification in C, once: packets and what loads, layouts and the builder, a run's orders and replies, the cut
- * run, what a cut can leave, MCS text, the forms of image files and reports. The tests compare the library with it, and
- * the benchmark measures the library beside it: so it is written to be fast. It takes nothing from the library but
- * names for the numbers of refusals, orders and replies, and is compiled by itself, as a library is, so that no call is
- * optimised for its caller.
+ * run, what a cut can leave, the image with most writes, MCS text, the forms of image files and reports. The tests
+ * compare the library with it, and the benchmark measures the library beside it: so it is written to be fast. It takes
+ * nothing from the library but names for the numbers of refusals, orders and replies, and is compiled by itself, as a
+ * library is, so that no call is optimised for its caller.
  *
- * A function that returns a uint32_t returns the number of a refusal or stop, or 0. A place is 0 where none is
- * named, and a refusal leaves all else that is lent as it was. */
+ * A function that returns a uint32_t returns the number of a refusal or stop, or 0. A place is 0 where none is named,
+ * and a refusal leaves all else that is lent as it was. */
 #ifndef REFERENCE_H
 #define REFERENCE_H
 
 #include <stddef.h>
 #include <stdint.h>
+#include <string.h>
 
 #include "../include/tealsettle.h"
+
+/* Puts a word down, high byte first. */
+static inline void reference_put_word(uint8_t *at, uint32_t word)
+{
+    uint32_t high_first = __builtin_bswap32(word);
+    memcpy(at, &high_first, 4);
+}
 
 /* ---- Image files ---- */
 

@@ -26,7 +26,8 @@ const Command heaviest_command = {
     .purpose = "An image of N bytes with as many writes as an accepted one can have, for a test rack",
     .help = "N is 12 to 16777216, decimal or after 0x hexadecimal. The image is one packet of the command register, whose words are\n"
             "0 (no command) and at the end DESYNC; FF follows where N is no multiple of 4. How many writes it has is said on standard\n"
-            "error, or on standard output with -o. `tealsettle check` counts them, and `tealsettle build` takes it as any image.\n"
+            "output, or on standard error where the bytes go to standard output. `tealsettle check` counts them, and\n"
+            "`tealsettle build` takes the image as any other.\n"
             "\n"
             "  -o FILE  where the bytes go, a file whole or not at all; without it they go to standard output, which must not be a\n"
             "           terminal\n"

@@ -126,7 +126,7 @@ static inline int try_often(long count, int (*try)(void))
 
 /* What was answered, and how often: by the number of a refusal, 0 where there was none. */
 
-enum { NUMBERS = TEALSETTLE_REFUSED_NO_ROOM + 1 };
+enum { NUMBERS = TEALSETTLE_REFUSED_BAD_HEAVIEST_LENGTH + 1 };
 
 static inline void print_refusals(const long *answers)
 {

@@ -1,34 +1,39 @@
-/* tealsettle_most_writes and tealsettle_heaviest_image: for every length from 12 to 9,000 and some large ones the number is the
- * greatest by a search through all ways to divide so many words into packets; the image has just as many by the image check and
- * is the reference's byte for byte, at the front of its buffer. A buffer that is too small, and lengths that no image has, are
- * refused, and nothing is written. Random images have no more writes than the number for their length. */
+/* tealsettle_most_writes and tealsettle_heaviest_image: for every length from 12 to 9,000 the number is the greatest by a search
+ * through all ways to divide so many words into packets; for these and some large ones the image has just as many by the image
+ * check and is the reference's byte for byte, at the front of its buffer. A buffer that is too small, and lengths that no image
+ * has, are refused, and nothing is written. Random images have no more writes than the number for their length. */
 #include "compare.h"
 #include "make.h"
 
 #include <stdlib.h>
 
-enum { SHORTEST = 12, LONGEST = 16 << 20, EVERY = 9000, WORDS = EVERY / 4, MOST_OF_TYPE1 = 2047, MARGIN = 64, RANDOM = 300000 };
+enum { SHORTEST = 12, LONGEST = 16 << 20, EVERY = 9000, WORDS = EVERY / 4, MOST_OF_TYPE1 = 2047, RANDOM = 300000, LARGE = 40 };
+enum { MORE = 4096, MARGIN = 64 }; /* room after an image, and bytes after the room */
 
 static uint8_t *out, *expected;
 static size_t greatest[WORDS]; /* by the number of words after the sync word */
 static long images;
 
+/* The most writes of so many words where the first packet has so many headers, and at most so many data words; after it further
+ * packets may come. */
+static size_t best_packet(size_t words, size_t headers, size_t most)
+{
+    size_t best = 0;
+    for (size_t count = 1; count <= most && headers + count <= words; count++) {
+        size_t writes = count + greatest[words - headers - count];
+        best = writes > best ? writes : best;
+    }
+    return best;
+}
+
 /* The greatest number of writes by the packet rules themselves. A packet takes a header and up to 2,047 data words, or two
- * headers and any number of them; after each further packets may come. (A no-operation, or a packet without data words, is no
- * better than a word that is not read.) The last ends with DESYNC. */
+ * headers and any number of them. (A no-operation, or a packet without data words, is no better than a word that is not read.)
+ * The last ends with DESYNC. */
 static void search_packets(void)
 {
     for (size_t words = 2; words < WORDS; words++) {
-        size_t best = words > 2 ? words - 2 : 0; /* two headers, to the end */
-        for (size_t count = 1; count <= MOST_OF_TYPE1 && count < words; count++) {
-            size_t writes = count + greatest[words - 1 - count];
-            best = writes > best ? writes : best;
-        }
-        for (size_t count = 1; count + 1 < words; count++) {
-            size_t writes = count + greatest[words - 2 - count];
-            best = writes > best ? writes : best;
-        }
-        greatest[words] = best;
+        size_t one = best_packet(words, 1, MOST_OF_TYPE1), two = best_packet(words, 2, words);
+        greatest[words] = one > two ? one : two;
     }
 }
 
@@ -37,7 +42,7 @@ static int most_differs(const char *what, TealsettleMost most, uint32_t number, 
     return differs(what, most.number, number) || differs("place", most.place, 0) || differs("writes", most.writes, writes);
 }
 
-/* Both calls say that there is no such image, or no room for one; whatever the room, nothing is written. */
+/* The call says that no image has this length, or that there is no room; and nothing is written. */
 static int refusal_differs(uint32_t number, size_t n, size_t room)
 {
     tried++;
@@ -72,38 +77,51 @@ static int image_differs(size_t n, size_t more)
            bytes_differ("bytes of the image, and those after it", out, expected, n + more + MARGIN) || check_differs(n, writes);
 }
 
+/* An image with little room after it and with much, and no room for it. */
+static int length_differs(size_t n)
+{
+    return image_differs(n, below(MARGIN)) || image_differs(n, MORE) || refusal_differs(TEALSETTLE_REFUSED_NO_ROOM, n, n - 1) ||
+           refusal_differs(TEALSETTLE_REFUSED_NO_ROOM, n, below(n));
+}
+
 static int try_every(void)
 {
     search_packets();
-    for (size_t n = SHORTEST; n <= EVERY; n++) {
+    for (size_t n = SHORTEST; n <= EVERY; n++)
         if (differs("the number, by a search through all packets", tealsettle_most_writes(n).writes, greatest[n / 4 - 1]) ||
-            image_differs(n, n % 3 * below(MARGIN)) || refusal_differs(TEALSETTLE_REFUSED_NO_ROOM, n, n - 1) ||
-            refusal_differs(TEALSETTLE_REFUSED_NO_ROOM, n, below(n)))
+            length_differs(n))
             return 1;
-    }
     return 0;
 }
 
 static int try_large(void)
 {
+    return length_differs(EVERY + below(LONGEST - EVERY));
+}
+
+static int try_longest(void)
+{
     for (size_t n = LONGEST - 9; n <= LONGEST; n++)
-        if (image_differs(n, 0) || refusal_differs(TEALSETTLE_REFUSED_NO_ROOM, n, n - 1))
-            return 1;
-    for (int i = 0; i < 40; i++)
-        if (image_differs(EVERY + below(LONGEST - EVERY), below(MARGIN)))
+        if (length_differs(n))
             return 1;
     return 0;
 }
 
-/* Lengths that no image has: 29, also where there is no room. */
+/* A length that no image has: 29, whether there is no room, some, or more than for any image. */
+static int none_differs(size_t n)
+{
+    return most_differs("the number", tealsettle_most_writes(n), TEALSETTLE_REFUSED_BAD_HEAVIEST_LENGTH, 0) ||
+           refusal_differs(TEALSETTLE_REFUSED_BAD_HEAVIEST_LENGTH, n, 0) ||
+           refusal_differs(TEALSETTLE_REFUSED_BAD_HEAVIEST_LENGTH, n, below(MARGIN)) ||
+           refusal_differs(TEALSETTLE_REFUSED_BAD_HEAVIEST_LENGTH, n, LONGEST + MORE);
+}
+
 static int try_lengths(void)
 {
-    static const size_t none[] = {0, 1, 3, 4, 8, 11, LONGEST + 1, LONGEST + 4, (size_t)1 << 32, (size_t)1 << 34, SIZE_MAX};
-    for (size_t i = 0; i < sizeof none / sizeof *none; i++)
-        for (size_t room = 0; room <= 4096; room += 1024)
-            if (refusal_differs(TEALSETTLE_REFUSED_BAD_HEAVIEST_LENGTH, none[i], room) ||
-                most_differs("the number", tealsettle_most_writes(none[i]), TEALSETTLE_REFUSED_BAD_HEAVIEST_LENGTH, 0))
-                return 1;
+    static const size_t far[] = {(size_t)1 << 25, ((size_t)1 << 32) + 12, ((size_t)1 << 34) + 4096, ((size_t)1 << 63) + 12, SIZE_MAX};
+    for (size_t i = 0; i < SHORTEST; i++)
+        if (none_differs(i) || none_differs(LONGEST + 1 + i) || none_differs(far[i % (sizeof far / sizeof *far)]))
+            return 1;
     return 0;
 }
 
@@ -123,9 +141,10 @@ static int try_random(void)
 
 int main(void)
 {
-    out = malloc(LONGEST + 4096 + MARGIN);
-    expected = malloc(LONGEST + 4096 + MARGIN);
-    if (!out || !expected || try_every() || try_large() || try_lengths() || try_often(RANDOM, try_random))
+    out = malloc(LONGEST + MORE + MARGIN);
+    expected = malloc(LONGEST + MORE + MARGIN);
+    if (!out || !expected || try_every() || try_often(LARGE, try_large) || try_longest() || try_lengths() ||
+        try_often(RANDOM, try_random))
         return 1;
     printf("host test: %ld images with most writes, refusals and random images, %ld of them accepted: none has more writes\n", tried,
            images);

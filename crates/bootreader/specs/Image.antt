@@ -11,6 +11,10 @@ use Rattle.packets.specs.Trace.{nthWrite}
 use Rattle.writes.specs.Cursor.{cursorAt}
 use Rattle.bootreader.specs.Types.{Outcome, Loaded, OutcomeIprog, Stuck, WriteAnswer, WriteRefused, Listing, ListingOpen, ListingRefused, ImageAnswer, Accepted, ImageRefused}
 
+-- the shortest image that is accepted
+abbrev pub shortestImage : ℕ
+shortestImage = 12
+
 -- the longest image where one is checked by itself
 abbrev pub longestImage : ℕ
 longestImage = longestChip

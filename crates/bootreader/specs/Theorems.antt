@@ -10,7 +10,7 @@ use Rattle.configreader.specs.Configreader.{readFrom, listed}
 use Rattle.configreader.specs.Theorems.{twelveBytes}
 use Rattle.kind.specs.Spi.{spi}
 use Rattle.base.specs.Refusal.{badImageLength, imageJumps}
-use Rattle.bootreader.specs.Image.{imageWithin, imageAnswer, imageWrite, imageListing}
+use Rattle.bootreader.specs.Image.{shortestImage, imageWithin, imageAnswer, imageWrite, imageListing}
 use Rattle.bootreader.specs.Boot.{cursorOf, chipWrite, chipListing}
 use Rattle.bootreader.specs.Types.{Loaded, Cursor, ListingOpen, Accepted, ImageRefused}
 
@@ -31,7 +31,7 @@ WritesCounted =
 
 -- The shortest image that is accepted has 12 bytes: no shorter one is, and AA995566 30008001 0000000D is.
 pub record ShortestImage : Type 0 where
-  pub none-shorter : (image : List ℕ) (sync end writes : ℕ) → imageAnswer spi image ≡ Accepted sync end writes → 12 ≤ length image
+  pub none-shorter : (image : List ℕ) (sync end writes : ℕ) → imageAnswer spi image ≡ Accepted sync end writes → shortestImage ≤ length image
   pub of-twelve : imageAnswer spi twelveBytes ≡ Accepted 0 12 1
 
 -- An image is refused with 4, 5 or 6, at a place within it or at its end, whatever its area's length.

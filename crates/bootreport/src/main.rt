@@ -17,8 +17,8 @@ fn output() -> [u8; 55281] {
     [0; 55281]
 }
 
-// The report of a text: how many bytes it has in the buffer. It is never refused, since no report is longer (`ReportsFit`):
-// the contract leaves no case in which the 0 is answered.
+// The report of a text: how many bytes it has in the buffer. No report is longer than the buffer (`FileReportFits`), so the
+// branch for a refusal is never taken: that is what the proof shows.
 fn whole_report(text: &[u8], out: &mut [u8; 55281]) -> usize
     ensures { λ r. ⌜ r ≡ length (fileReport (now (text .entry))) ⌝ }
     ensures { λ r. ⌜ now (out .exit) ≡ fileOutput (now (text .entry)) (now (out .entry)) ⌝ }

@@ -40,6 +40,7 @@ counts words on = (result (words ∷ on ∷ []), [])
 abbrev pub orders : ℕ → ℕ → Says
 orders total listed = (result (total ∷ []), listed ∷ [])
 
+-- so many writes; and the image is accepted, with its sync word at 0, this end and as many writes
 abbrev pub has : ℕ → ℕ → Says
 has writes end = (result (writes ∷ []), 0 ∷ end ∷ writes ∷ [])
 

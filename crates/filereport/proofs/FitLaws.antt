@@ -25,7 +25,7 @@ use Rattle.report.specs.Boot.{chipReport}
 use Rattle.report.specs.Refusal.{written}
 use Rattle.report.proofs.Laws.{loaded-length}
 use Rattle.filereport.specs.Filereport.{reportLayout, onBuilt, builtReport, onReading, fileReport}
-use Rattle.filereport.specs.Theorems.{longestReport, ReportsFit}
+use Rattle.filereport.specs.Theorems.{longestReport, FileReportFits}
 use Rattle.filereport.specs.Types.{Layout, LayoutAllowed, BuildAnswer, Built, BuildRefused}
 
 -- A refusal with a number of two digits, at a place of five, is a short line.
@@ -78,9 +78,9 @@ report-short text = go (leb (length text) 65536) refl
     go true e = read-short text (leb-true (length text) 65536 e)
     go false e = refused-short noRoom 0 (omega arith) (omega arith)
 
-pub reports-fit : ReportsFit
+pub file-report-fits : FileReportFits
 unfolding written ask
-reports-fit = record {
+file-report-fits = record {
   bound = report-short;
   written = λ text room h. let l = report-short text in rw (le-leb (length (fileReport text)) room (omega arith)) refl;
 }

@@ -6,13 +6,11 @@ use lib.ListN.{length}
 use Rattle.filereport.specs.Filereport.{fileReport, fileAnswer}
 use Rattle.filereport.specs.Types.{Written}
 
--- The longest has 2,046 writes, as many as an image of the golden area's 8,192 bytes can have, with a line of 27 bytes each, a first line of 14 and a last of 25.
+-- The length of a report with 2,046 writes, as many as an image of the golden area's 8,192 bytes can have: a line of 27 bytes each, a first line of 14 and a last of 25.
 abbrev pub longestReport : ℕ
 longestReport = 55281
 
--- Whatever the text:
-pub record ReportsFit : Type 0 where
-  -- its report is no longer,
+-- No report of an image file is longer than `longestReport`, whatever the text, so a buffer of that length is never refused.
+pub record FileReportFits : Type 0 where
   pub bound : (text : List ℕ) → length (fileReport text) ≤ longestReport
-  -- so that a buffer of so many bytes is never refused.
   pub written : (text : List ℕ) (room : ℕ) → longestReport ≤ room → fileAnswer text room ≡ Written (length (fileReport text))

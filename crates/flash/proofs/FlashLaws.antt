@@ -2,6 +2,7 @@
 use Prim.Native.Nat.{ℕ, zero, suc, _+_, _-_, _<_, _≤_}
 use mathlib.Core.Path.{_≡_, refl, sym, ap, _∙_}
 use mathlib.Core.List.{List, [], _∷_, _++_, append-assoc, append-nil}
+use native.Mathlib.Nat.{zero-add}
 use native.Mathlib.Omega.{arith}
 use borrow.Author.Tests.{le-leb}
 use lib.Bits.{bitAnd}
@@ -101,6 +102,23 @@ front-on done buffer place count bytes here long fits =
         ∙ drop-append-add done rest (length bytes)
         ∙ drop-drop (length bytes) (length done) buffer
         ∙ ap (λ (n : ℕ). drop n buffer) (sym (length-append done bytes))
+
+-- Bytes over the beginning of what fills the front: the rest of it stays.
+pub front-again : (done buffer : List ℕ) (count : ℕ) (bytes : List ℕ) → length bytes ≡ count → count ≤ length done → length done ≤ length buffer →
+    overwriteInRange (frontFilled done buffer) 0 count bytes ≡ frontFilled (bytes ++ drop count done) buffer
+front-again done buffer count bytes long within fits =
+    ap (λ (l : List ℕ). overwriteInRange l 0 count bytes) (front-fits done buffer fits)
+    ∙ in-range (done ++ rest) 0 count bytes (let n = length-append done rest in omega arith)
+    ∙ ap (λ (l : List ℕ). bytes ++ l) (ap (λ (n : ℕ). drop n (done ++ rest)) (zero-add (length bytes) ∙ long) ∙ drop-append-le count done rest within)
+    ∙ sym (append-assoc bytes (drop count done) rest)
+    ∙ ap (λ (n : ℕ). (bytes ++ drop count done) ++ drop n buffer) (sym same)
+    ∙ sym (front-fits (bytes ++ drop count done) buffer (omega (arith, same)))
+  where
+    rest : List ℕ
+    rest = drop (length done) buffer
+
+    same : length (bytes ++ drop count done) ≡ length done
+    same = length-append bytes (drop count done) ∙ let n = length-drop count done in omega arith
 
 -- What an erase and a program leave, byte by byte.
 pub erased-length : (count : ℕ) → length (erased count) ≡ count

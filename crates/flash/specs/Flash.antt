@@ -32,7 +32,7 @@ unfoldable pub flashNumbers : FlashAnswer → Numbered
 flashNumbers FlashDone = result []
 flashNumbers (FlashRefused number place) = refusal number place
 
--- What `erase`, `program` and `overwrite` answer, by the chip's length, the place and how many bytes: a span that does not lie within the chip is refused with 19 at 0 (question 13).
+-- What `fill`, `erase`, `program` and `overwrite` answer, by the chip's length, the place and how many bytes: a span that does not lie within the chip is refused with 19 at 0 (question 13).
 unfoldable pub flashAnswer : ℕ → ℕ → ℕ → FlashAnswer
 flashAnswer chipLength place count = ask (leb (place + count) chipLength) (FlashRefused noRoom 0) FlashDone
 

@@ -35,7 +35,8 @@ fn no_room() -> FlashAnswer
     }
 }
 
-// Puts one byte at every place of a span, whatever stood there; or refusal 19, and the chip as it was.
+// Puts one byte at every place of a span, whatever stood there: an erase does so with FF. Or refusal 19, and the chip as it
+// was.
 pub fn fill(chip: &mut [u8], place: usize, count: usize, byte: u8) -> FlashAnswer
     ensures answer { λ r. ⌜ Gives flashNumbers r (flashAnswer (length (now (chip .entry))) place count) ⌝ }
     ensures output { λ r. ⌜ now (chip .exit) ≡ overwriteInRange (now (chip .entry)) place count (replicate count byte) ⌝ }

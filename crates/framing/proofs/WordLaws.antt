@@ -1,6 +1,6 @@
 -- Words by their place in the bytes.
 use Prim.Native.Nat.{ℕ, zero, suc, _+_, _-_, _*_, _/_, _%_, _^_, _<_, _≤_}
-use mathlib.Core.Path.{_≡_, refl, sym, ap, _∙_}
+use mathlib.Core.Path.{_≡_, refl, sym, ap, ap₂, _∙_}
 use mathlib.Core.List.{List, [], _∷_, _++_, append-assoc}
 use native.Mathlib.Nat.{add-zero}
 use native.Mathlib.Omega.{arith}
@@ -54,17 +54,27 @@ bytes-word word h =
     glue : (a b c d n₂₄ n₁₆ n₈ n : ℕ) → a ≡ n₂₄ → n₁₆ ≡ 256 * n₂₄ + b → n₈ ≡ 256 * n₁₆ + c → n ≡ 256 * n₈ + d → (a * 256 + b) * 65536 + (c * 256 + d) ≡ n
     glue a b c d n₂₄ n₁₆ n₈ n e₀ e₁ e₂ e₃ = omega arith
 
--- A word's bytes are read as that word,
-pub words-first : (word : ℕ) (rest : List ℕ) → word < 2 ^ 32 → words (bytesOf word ++ rest) ≡ word ∷ words rest
-unfolding words
-words-first word rest h = ap (λ (w : ℕ). w ∷ words rest) (bytes-word word h)
+-- Every number of a list is a word of 32 bits.
+unfoldable pub AllWords : List ℕ → Type 0
+AllWords [] = Unit {0}
+AllWords (word ∷ more) = (word < 2 ^ 32) × AllWords more
 
--- and words take four bytes each.
+-- The bytes of words are read as those words, whatever too few bytes for another follow.
+pub words-of-bytes : (ws rest : List ℕ) → AllWords ws → length rest < 4 → words (bytesOfWords ws ++ rest) ≡ ws
+unfolding AllWords words bytesOfWords
+words-of-bytes [] [] all h = refl
+words-of-bytes [] (a ∷ []) all h = refl
+words-of-bytes [] (a ∷ b ∷ []) all h = refl
+words-of-bytes [] (a ∷ b ∷ c ∷ []) all h = refl
+words-of-bytes [] (a ∷ b ∷ c ∷ d ∷ rest) all h = absurd (omega arith)
+words-of-bytes (word ∷ ws) rest all h = ap₂ (λ (w : ℕ) (l : List ℕ). w ∷ l) (bytes-word word (all .0)) (words-of-bytes ws rest (all .1) h)
+
 pub bytes-words-append : (first second : List ℕ) → bytesOfWords (first ++ second) ≡ bytesOfWords first ++ bytesOfWords second
 unfolding bytesOfWords
 bytes-words-append [] second = refl
 bytes-words-append (word ∷ first) second = ap (λ (l : List ℕ). bytesOf word ++ l) (bytes-words-append first second) ∙ sym (append-assoc (bytesOf word) (bytesOfWords first) (bytesOfWords second))
 
+-- Words take four bytes each.
 pub bytes-words-length : (ws : List ℕ) → length (bytesOfWords ws) ≡ 4 * length ws
 unfolding bytesOfWords
 bytes-words-length [] = refl

@@ -12,7 +12,7 @@ use Rattle.base.specs.Question.{ask}
 use Rattle.base.proofs.Laws.{below-or-not}
 use Rattle.framing.specs.Search.{beginsWith, find}
 use Rattle.framing.specs.Words.{words, bytesOfWords}
-use Rattle.framing.proofs.Laws.{find-here, words-first, room}
+use Rattle.framing.proofs.Laws.{find-here, AllWords, words-of-bytes, room}
 use Rattle.packets.specs.Header.{field, CMD, DESYNC, registerOk, headOf, effectOf}
 use Rattle.packets.specs.Trace.{opened, other, header, payload, modeOf, afterHeader, trace, finish, traceFrom, writesFrom}
 use Rattle.packets.proofs.Laws.{type1-write, type2-write, command-ok, counted, trace-header, trace-data, trace-desync, headers-cost}
@@ -22,17 +22,17 @@ use Rattle.kind.specs.Spi.{spi}
 use Rattle.bootreader.specs.Boot.{bootAnswer}
 use Rattle.bootreader.specs.Image.{longestImage, imageAnswer}
 use Rattle.bootreader.proofs.Laws.{accepts, accepted-reads, booted}
-use Rattle.heaviest.specs.Heaviest.{heaviestLengthAllowed, mostIn, mostWrites, heaviestHeaders, heaviestImage}
+use Rattle.heaviest.specs.Heaviest.{heaviestLengthAllowed, mostIn, mostWrites, heaviestHeaders, nullCommand, heaviestImage}
 use Rattle.heaviest.specs.Theorems.{MostWrites, NothingLoadsMore}
 use Rattle.heaviest.specs.Types.{SyncAt, Type1, Type2, FinishEnded, Loaded, BootLoaded, Accepted}
 use Rattle.heaviest.proofs.ImageLaws.{allowed-range, most-few, most-many, by-headers, divided, image-length}
 
--- THE PACKET. Its data words: 0 lets the reading go on, and DESYNC ends it.
-data-reads : (k place writes wbstar : ℕ) → finish (trace (replicate k 0 ++ (DESYNC ∷ [])) place (payload CMD k)) writes wbstar ≡ FinishEnded (place + 4 * k + 4) (writes + k + 1)
+-- THE PACKET. Its data words: the first ones let the reading go on, and DESYNC ends it.
+data-reads : (k place writes wbstar : ℕ) → finish (trace (replicate k nullCommand ++ (DESYNC ∷ [])) place (payload CMD k)) writes wbstar ≡ FinishEnded (place + 4 * k + 4) (writes + k + 1)
 unfolding finish effectOf ask modeOf
 data-reads zero place writes wbstar = rw (trace-desync DESYNC [] place CMD 0 refl) (ap₂ FinishEnded (omega arith) (omega arith))
 data-reads (suc k) place writes wbstar =
-    rw (trace-data 0 (replicate k 0 ++ (DESYNC ∷ [])) place CMD (suc k) refl)
+    rw (trace-data nullCommand (replicate k nullCommand ++ (DESYNC ∷ [])) place CMD (suc k) refl)
     (data-reads k (place + 4) (writes + 1) wbstar ∙ ap₂ FinishEnded (omega arith) (omega arith))
 
 -- Its headers say what they are to say.
@@ -46,61 +46,53 @@ type1-head count h =
 type2-head : (count : ℕ) → count < 2 ^ 27 → headOf (0x50000000 + count) ≡ Type2 count
 type2-head count h = let same : (0x50000000 + count) % 2 ^ 27 ≡ count = omega arith in type2-write (0x50000000 + count) (omega arith) ∙ ap Type2 same
 
-few-reads : (k place : ℕ) → suc k < 2 ^ 11 → finish (trace ((0x30008000 + suc k) ∷ (replicate k 0 ++ (DESYNC ∷ []))) place (header other)) 0 0 ≡ FinishEnded (place + 4 + 4 * k + 4) (0 + k + 1)
+few-reads : (k place : ℕ) → suc k < 2 ^ 11 → finish (trace ((0x30008000 + suc k) ∷ (replicate k nullCommand ++ (DESYNC ∷ []))) place (header other)) 0 0 ≡ FinishEnded (place + 4 + 4 * k + 4) (0 + k + 1)
 unfolding afterHeader modeOf
 few-reads k place h =
-    rw (trace-header (0x30008000 + suc k) (replicate k 0 ++ (DESYNC ∷ [])) place other (payload CMD k) (rw (type1-head (suc k) h) refl))
+    rw (trace-header (0x30008000 + suc k) (replicate k nullCommand ++ (DESYNC ∷ [])) place other (payload CMD k) (rw (type1-head (suc k) h) refl))
     (data-reads k (place + 4) 0 0)
 
-many-reads : (k place : ℕ) → suc k < 2 ^ 27 → finish (trace (0x30008000 ∷ (0x50000000 + suc k) ∷ (replicate k 0 ++ (DESYNC ∷ []))) place (header other)) 0 0 ≡ FinishEnded (place + 4 + 4 + 4 * k + 4) (0 + k + 1)
+many-reads : (k place : ℕ) → suc k < 2 ^ 27 → finish (trace (0x30008000 ∷ (0x50000000 + suc k) ∷ (replicate k nullCommand ++ (DESYNC ∷ []))) place (header other)) 0 0 ≡ FinishEnded (place + 4 + 4 + 4 * k + 4) (0 + k + 1)
 unfolding afterHeader modeOf
 many-reads k place h =
     rw (
-      trace-header 0x30008000 ((0x50000000 + suc k) ∷ (replicate k 0 ++ (DESYNC ∷ []))) place other (header (opened CMD)) (rw (type1-head 0 (omega arith)) refl),
-      trace-header (0x50000000 + suc k) (replicate k 0 ++ (DESYNC ∷ [])) (place + 4) (opened CMD) (payload CMD k) (rw (type2-head (suc k) h) refl),
+      trace-header 0x30008000 ((0x50000000 + suc k) ∷ (replicate k nullCommand ++ (DESYNC ∷ []))) place other (header (opened CMD)) (rw (type1-head 0 (omega arith)) refl),
+      trace-header (0x50000000 + suc k) (replicate k nullCommand ++ (DESYNC ∷ [])) (place + 4) (opened CMD) (payload CMD k) (rw (type2-head (suc k) h) refl),
     )
     (data-reads k (place + 4 + 4) 0 0)
 
 -- From a place just after the sync word, the packet ends with the last whole word.
-packet-reads : (w place : ℕ) → 3 ≤ w → w ≤ 4194304 → finish (trace (heaviestHeaders w ++ (replicate (mostIn w - 1) 0 ++ (DESYNC ∷ []))) place (header other)) 0 0 ≡ FinishEnded (place + 4 * (w - 1)) (mostIn w)
+packet-reads : (w place : ℕ) → 3 ≤ w → w ≤ 4194304 → finish (trace (heaviestHeaders w ++ (replicate (mostIn w - 1) nullCommand ++ (DESYNC ∷ []))) place (header other)) 0 0 ≡ FinishEnded (place + 4 * (w - 1)) (mostIn w)
 packet-reads w place long small =
     let one-less : suc (mostIn w - 1) ≡ mostIn w = let d = divided w long in omega arith in
-    by-headers w (λ headers. finish (trace (headers ++ (replicate (mostIn w - 1) 0 ++ (DESYNC ∷ []))) place (header other)) 0 0 ≡ FinishEnded (place + 4 * (w - 1)) (mostIn w))
+    by-headers w (λ headers. finish (trace (headers ++ (replicate (mostIn w - 1) nullCommand ++ (DESYNC ∷ []))) place (header other)) 0 0 ≡ FinishEnded (place + 4 * (w - 1)) (mostIn w))
     (λ few. let m = most-few w few in rw one-less at (few-reads (mostIn w - 1) place (omega arith)) ∙ ap₂ FinishEnded (omega arith) (omega arith))
     (λ many. let m = most-many w many in rw one-less at (many-reads (mostIn w - 1) place (omega arith)) ∙ ap₂ FinishEnded (omega arith) (omega arith))
 
--- THE IMAGE'S WORDS are read back from its bytes.
-data-words : (k : ℕ) (rest : List ℕ) → length rest < 4 → words (bytesOfWords (replicate k 0 ++ (DESYNC ∷ [])) ++ rest) ≡ replicate k 0 ++ (DESYNC ∷ [])
-unfolding words bytesOfWords
-data-words zero [] h = refl
-data-words zero (a ∷ []) h = refl
-data-words zero (a ∷ b ∷ []) h = refl
-data-words zero (a ∷ b ∷ c ∷ []) h = refl
-data-words zero (a ∷ b ∷ c ∷ d ∷ rest) h = absurd (omega arith)
-data-words (suc k) rest h = ap (λ (l : List ℕ). 0 ∷ l) (data-words k rest h)
+-- THE IMAGE'S WORDS are words of 32 bits, so they are read back from its bytes.
+data-words : (k : ℕ) → AllWords (replicate k nullCommand ++ (DESYNC ∷ []))
+unfolding AllWords
+data-words zero = (omega arith, tt)
+data-words (suc k) = (omega arith, data-words k)
 
-header-words : (w : ℕ) (data′ rest : List ℕ) → 3 ≤ w → w ≤ 4194304 → words (bytesOfWords data′ ++ rest) ≡ data′ → words (bytesOfWords (heaviestHeaders w ++ data′) ++ rest) ≡ heaviestHeaders w ++ data′
-unfolding bytesOfWords
-header-words w data′ rest long small e =
-    by-headers w (λ headers. words (bytesOfWords (headers ++ data′) ++ rest) ≡ headers ++ data′)
-    (λ few. let m = most-few w few in first (0x30008000 + mostIn w) data′ (omega arith) e)
-    (λ many. let m = most-many w many in first 0x30008000 ((0x50000000 + mostIn w) ∷ data′) (omega arith) (first (0x50000000 + mostIn w) data′ (omega arith) e))
-  where
-    first : (word : ℕ) (more : List ℕ) → word < 2 ^ 32 → words (bytesOfWords more ++ rest) ≡ more → words (bytesOfWords (word ∷ more) ++ rest) ≡ word ∷ more
-    first word more h e = words-first word (bytesOfWords more ++ rest) h ∙ ap (λ (l : List ℕ). word ∷ l) e
+packet-words : (w : ℕ) → 3 ≤ w → w ≤ 4194304 → AllWords (heaviestHeaders w ++ (replicate (mostIn w - 1) nullCommand ++ (DESYNC ∷ [])))
+unfolding AllWords
+packet-words w long small =
+    by-headers w (λ headers. AllWords (headers ++ (replicate (mostIn w - 1) nullCommand ++ (DESYNC ∷ []))))
+    (λ few. let m = most-few w few in (omega arith, data-words (mostIn w - 1)))
+    (λ many. let m = most-many w many in (omega arith, (omega arith, data-words (mostIn w - 1))))
 
 module _ (n : ℕ) (allowed : heaviestLengthAllowed n ≡ true) where
   found : find (drop 0 (heaviestImage n)) 0 ≡ SyncAt 0
   unfolding beginsWith bytesOfWords
   found = find-here (heaviestImage n) 0 refl
 
-  after-sync : words (drop 4 (heaviestImage n)) ≡ heaviestHeaders (n / 4) ++ (replicate (mostWrites n - 1) 0 ++ (DESYNC ∷ []))
+  after-sync : words (drop 4 (heaviestImage n)) ≡ heaviestHeaders (n / 4) ++ (replicate (mostWrites n - 1) nullCommand ++ (DESYNC ∷ []))
   unfolding bytesOfWords
   after-sync =
       let r = allowed-range n allowed in
       let tail = length-replicate {A = ℕ} (n % 4) 0xFF in
-      header-words (n / 4) (replicate (mostWrites n - 1) 0 ++ (DESYNC ∷ [])) (replicate (n % 4) 0xFF) (omega arith) (omega arith)
-      (data-words (mostWrites n - 1) (replicate (n % 4) 0xFF) (omega arith))
+      words-of-bytes (heaviestHeaders (n / 4) ++ (replicate (mostWrites n - 1) nullCommand ++ (DESYNC ∷ []))) (replicate (n % 4) 0xFF) (packet-words (n / 4) (omega arith) (omega arith)) (omega arith)
 
   reads : readAlone (heaviestImage n) ≡ Loaded 0 (4 * (n / 4)) (mostWrites n) false
   reads =

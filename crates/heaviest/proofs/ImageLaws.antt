@@ -6,7 +6,8 @@ use mathlib.Core.Logic.{⊎-elim}
 use mathlib.Core.List.{List, [], _∷_, _++_, append-assoc}
 use native.Mathlib.Omega.{arith}
 use borrow.Author.Tests.{leb-true, le-leb, lt-leb}
-use lib.ListN.{length, replicate, length-append, length-replicate}
+use lib.ListN.{length, drop, replicate, length-append, length-replicate, replicate-append-replicate}
+use lib.Seq.{drop-at}
 use Rattle.base.specs.Output.{frontFilled}
 use Rattle.base.specs.Question.{ask}
 use Rattle.base.specs.Refusal.{badHeaviestLength, noRoom}
@@ -14,10 +15,10 @@ use Rattle.base.proofs.Laws.{false-true, asked, below-or-not, front-fits}
 use Rattle.framing.specs.Words.{bytesOfWords}
 use Rattle.framing.proofs.Laws.{bytes-words-append, bytes-words-length, bytes-of-zeros}
 use Rattle.packets.specs.Header.{DESYNC}
-use Rattle.bootreader.specs.Image.{longestImage}
+use Rattle.bootreader.specs.Image.{shortestImage, longestImage}
 use Rattle.flash.specs.Flash.{erased, overwriteInRange}
-use Rattle.flash.proofs.Laws.{front-on, erased-length}
-use Rattle.heaviest.specs.Heaviest.{shortestImage, heaviestLengthAllowed, mostIn, mostWrites, heaviestHeaders, heaviestImage, mostAnswer, heaviestAnswer, heaviestOutput}
+use Rattle.flash.proofs.Laws.{front-on, front-again, erased-length}
+use Rattle.heaviest.specs.Heaviest.{heaviestLengthAllowed, mostIn, mostWrites, heaviestHeaders, heaviestImage, mostAnswer, heaviestAnswer, heaviestOutput}
 use Rattle.heaviest.specs.Internal.{opening}
 use Rattle.heaviest.specs.Types.{Most, MostRefused}
 
@@ -88,29 +89,39 @@ module _ (n : ℕ) where
       ∙ length-append ((opening (n / 4) ++ zeros) ++ desyncBytes) (erased (n % 4))
       ∙ rw (length-append (opening (n / 4) ++ zeros) desyncBytes, length-append (opening (n / 4)) zeros, zeros-length, erased-length (n % 4)) (omega arith)
 
-  -- Written one after the other, they are the image at the front of the buffer.
+  -- Zeros up to the last word, the opening over them, DESYNC and FF are the image at the front of the buffer.
   module _ (buffer : List ℕ) (long : shortestImage ≤ n) (fits : n ≤ length buffer) where
-    abbrev data-at : ℕ
-    data-at = 4 * (n / 4 - mostWrites n)
-
     abbrev last-at : ℕ
     last-at = 4 * (n / 4 - 1)
 
-    pub written : overwriteInRange (overwriteInRange (overwriteInRange (overwriteInRange buffer 0 data-at (opening (n / 4))) data-at (last-at - data-at) (replicate (last-at - data-at) 0)) last-at 4 desyncBytes) (last-at + 4) (n % 4) (erased (n % 4)) ≡ frontFilled (heaviestImage n) buffer
+    abbrev blank : List ℕ
+    blank = replicate last-at 0
+
+    -- What the opening leaves of the zeros.
+    left-blank : drop (length (opening (n / 4))) blank ≡ zeros
+    left-blank =
+        let d = divided (n / 4) (omega (arith, long)) in
+        let o = opening-length (n / 4) (omega (arith, long)) in
+        let parts : length (opening (n / 4)) + 4 * (mostWrites n - 1) ≡ last-at = omega arith in
+        ap (λ (l : List ℕ). drop (length (opening (n / 4))) l) (ap (λ (k : ℕ). replicate k 0) (sym parts) ∙ sym (replicate-append-replicate (length (opening (n / 4))) (4 * (mostWrites n - 1)) 0))
+        ∙ drop-at (replicate (length (opening (n / 4))) 0) zeros (length (opening (n / 4))) (length-replicate {A = ℕ} (length (opening (n / 4))) 0)
+
+    pub written : overwriteInRange (overwriteInRange (overwriteInRange (overwriteInRange buffer 0 last-at blank) 0 (length (opening (n / 4))) (opening (n / 4))) last-at 4 desyncBytes) (last-at + 4) (n % 4) (erased (n % 4)) ≡ frontFilled (heaviestImage n) buffer
     written =
         let d = divided (n / 4) (omega (arith, long)) in
         let o = opening-length (n / 4) (omega (arith, long)) in
-        let between : last-at - data-at ≡ 4 * (mostWrites n - 1) = omega arith in
-        let first = sym (front-fits [] buffer (omega arith)) in
-        let opened = ap (λ (l : List ℕ). overwriteInRange l 0 data-at (opening (n / 4))) first ∙ front-on [] buffer 0 data-at (opening (n / 4)) refl o (omega (arith, fits)) in
-        let filled = ap (λ (l : List ℕ). overwriteInRange l data-at (4 * (mostWrites n - 1)) zeros) opened ∙ front-on (opening (n / 4)) buffer data-at (4 * (mostWrites n - 1)) zeros o zeros-length (omega (arith, fits)) in
+        let blank-length = length-replicate {A = ℕ} last-at 0 in
+        let filled = ap (λ (l : List ℕ). overwriteInRange l 0 last-at blank) (sym (front-fits [] buffer (omega arith))) ∙ front-on [] buffer 0 last-at blank refl blank-length (omega (arith, fits)) in
+        let opened =
+        ap (λ (l : List ℕ). overwriteInRange l 0 (length (opening (n / 4))) (opening (n / 4))) filled
+        ∙ front-again blank buffer (length (opening (n / 4))) (opening (n / 4)) refl (omega arith) (omega (arith, fits))
+        ∙ ap (λ (l : List ℕ). frontFilled (opening (n / 4) ++ l) buffer) left-blank in
         let two = length-append (opening (n / 4)) zeros in
-        let ended = ap (λ (l : List ℕ). overwriteInRange l last-at 4 desyncBytes) filled ∙ front-on (opening (n / 4) ++ zeros) buffer last-at 4 desyncBytes (omega (arith, zeros-length)) refl (omega (arith, fits)) in
+        let ended = ap (λ (l : List ℕ). overwriteInRange l last-at 4 desyncBytes) opened ∙ front-on (opening (n / 4) ++ zeros) buffer last-at 4 desyncBytes (omega (arith, zeros-length)) refl (omega (arith, fits)) in
         let three = length-append (opening (n / 4) ++ zeros) desyncBytes in
-        rw between
-        (ap (λ (l : List ℕ). overwriteInRange l (last-at + 4) (n % 4) (erased (n % 4))) ended
+        ap (λ (l : List ℕ). overwriteInRange l (last-at + 4) (n % 4) (erased (n % 4))) ended
         ∙ front-on ((opening (n / 4) ++ zeros) ++ desyncBytes) buffer (last-at + 4) (n % 4) (erased (n % 4)) (omega (arith, zeros-length)) (erased-length (n % 4)) (omega (arith, fits))
-        ∙ ap (λ (l : List ℕ). frontFilled l buffer) image-parts)
+        ∙ ap (λ (l : List ℕ). frontFilled l buffer) image-parts
 
 -- WHAT THE CALLS ANSWER, by the tests on the way.
 module _ (n : ℕ) where

@@ -10,12 +10,8 @@ use Rattle.base.specs.Question.{ask}
 use Rattle.base.specs.Refusal.{badHeaviestLength, noRoom}
 use Rattle.framing.specs.Words.{bytesOfWords}
 use Rattle.packets.specs.Header.{DESYNC}
-use Rattle.bootreader.specs.Image.{longestImage}
+use Rattle.bootreader.specs.Image.{shortestImage, longestImage}
 use Rattle.heaviest.specs.Types.{MostAnswer, Most, MostRefused}
-
--- the shortest image that is accepted
-abbrev pub shortestImage : ℕ
-shortestImage = 12
 
 -- In place of question 4: can an accepted image have n bytes, 12 to 16,777,216?
 unfoldable pub heaviestLengthAllowed : ℕ → Bool
@@ -37,9 +33,13 @@ heaviestHeaders words =
       | false ↦ 0x30008000 ∷ (0x50000000 + mostIn words) ∷ []
     ]
 
--- The sync word, the packet's headers, and its data words: 0, which as a command does nothing, and DESYNC as the last.
+-- the word of CMD that does nothing
+abbrev pub nullCommand : ℕ
+nullCommand = 0x00000000
+
+-- The sync word, the packet's headers, and its data words: commands that do nothing, and DESYNC as the last.
 abbrev pub heaviestWords : ℕ → List ℕ
-heaviestWords words = (0xAA995566 ∷ heaviestHeaders words) ++ (replicate (mostIn words - 1) 0 ++ (DESYNC ∷ []))
+heaviestWords words = (0xAA995566 ∷ heaviestHeaders words) ++ (replicate (mostIn words - 1) nullCommand ++ (DESYNC ∷ []))
 
 -- SUCH AN IMAGE of n bytes: these words, and FF after the last whole one.
 abbrev pub heaviestImage : ℕ → List ℕ

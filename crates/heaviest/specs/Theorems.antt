@@ -11,21 +11,21 @@ use Rattle.bootreader.specs.Image.{imageAnswer}
 use Rattle.heaviest.specs.Heaviest.{heaviestLengthAllowed, mostWrites, heaviestImage}
 use Rattle.heaviest.specs.Types.{Loaded, BootLoaded, Accepted}
 
--- The number is the greatest that an accepted image can have:
+-- `mostWrites n` is the greatest number of writes that an accepted image of n bytes can have, and `heaviestImage n` has it.
 pub record MostWrites : Type 0 where
-  -- the image that is written has n bytes,
+  -- The image that is written has n bytes,
   pub long : (n : ℕ) → heaviestLengthAllowed n ≡ true → length (heaviestImage n) ≡ n
   -- and the image check accepts it, to its last whole word, with exactly that many writes;
   pub reached : (n : ℕ) → heaviestLengthAllowed n ≡ true → imageAnswer spi (heaviestImage n) ≡ Accepted 0 (4 * (n / 4)) (mostWrites n)
   -- every image that the image check accepts has at most that many for its length.
   pub bound : (image : List ℕ) (sync end writes : ℕ) → imageAnswer spi image ≡ Accepted sync end writes → writes ≤ mostWrites (length image)
 
--- It bounds whatever loads, by the length of what is read:
+-- Nothing that loads has more writes than `mostWrites` of the length that is read.
 pub record NothingLoadsMore : Type 0 where
-  -- a chip, after a jump too;
+  -- No chip has, after a jump too;
   pub chip : (chip : List ℕ) (sync end writes : ℕ) (jumped : Bool) → bootAnswer spi chip ≡ BootLoaded sync end writes jumped → writes ≤ mostWrites (length chip)
-  -- any reading, wherever it begins;
+  -- nor any reading, wherever it begins;
   pub reading : (left : ℕ) (jumped : Bool) (bytes : List ℕ) (from sync end writes : ℕ) (after : Bool) → from ≤ length bytes → readFrom left jumped bytes from ≡ Loaded sync end writes after →
       writes ≤ mostWrites (length bytes)
-  -- and a longer one allows no fewer.
+  -- and more bytes allow no fewer.
   pub grows : (n m : ℕ) → n ≤ m → mostWrites n ≤ mostWrites m

@@ -6,9 +6,9 @@ ghost use lib.ListN.{length};
 ghost use Rattle.base.specs.Answer.{Gives};
 ghost use Rattle.base.specs.Output.{frontFilled};
 ghost use Rattle.framing.specs.Words.{bytesOfWords};
-ghost use Rattle.bootreader.specs.Image.{longestImage};
+ghost use Rattle.bootreader.specs.Image.{shortestImage, longestImage};
 ghost use Rattle.flash.specs.Flash.{overwriteInRange};
-ghost use Rattle.heaviest.specs.Heaviest.{shortestImage, heaviestLengthAllowed, mostIn, mostWrites, heaviestImage, mostNumbers, mostAnswer, heaviestAnswer, heaviestOutput};
+ghost use Rattle.heaviest.specs.Heaviest.{heaviestLengthAllowed, mostIn, mostWrites, heaviestImage, mostNumbers, mostAnswer, heaviestAnswer, heaviestOutput};
 ghost use Rattle.heaviest.specs.Internal.{opening};
 use base::refusal;
 use flash::erase;
@@ -104,19 +104,19 @@ fn put_opening(words: usize, writes: usize, out: &mut [u8])
     }
 }
 
-// Writes the image into a buffer that it fits into: part after part, from the front.
+// Writes the image into a buffer that it fits into. Zeros come first, from the buffer's first byte up to the last word: the
+// opening over them costs less than a start that is not aligned.
 fn put_image(image_length: usize, writes: usize, out: &mut [u8])
     requires { ⌜ (shortestImage ≤ «image_length») × («image_length» ≤ longestImage) × (writes ≡ mostWrites «image_length») × («image_length» ≤ length (now out)) ⌝ }
     ensures { λ r. ⌜ now (out .exit) ≡ frontFilled (heaviestImage «image_length») (now (out .entry)) ⌝ }
 {
     let words = image_length / 4;
-    let data = 4 * (words - writes);
-    let last = 4 * (words - 1);
+    let last_at = 4 * (words - 1);
     // The spans lie within the buffer, so that nothing here is refused.
+    let _ = fill(out, 0, last_at, 0);
     put_opening(words, writes, out);
-    let _ = fill(out, data, last - data, 0);
-    let _ = overwrite(out, last, &DESYNC);
-    let _ = erase(out, last + 4, image_length % 4);
+    let _ = overwrite(out, last_at, &DESYNC);
+    let _ = erase(out, last_at + 4, image_length % 4);
 }
 
 // The greatest number of writes that an accepted image of so many bytes can have; or refusal 29.
@@ -134,7 +134,8 @@ pub fn most_writes(image_length: usize) -> MostAnswer
     }
 }
 
-// Writes an image of so many bytes that has them to the front of a buffer; or refusal 29 or 19, and the buffer as it was.
+// Writes an image of so many bytes, with as many writes as an accepted one can have, to the front of a buffer; or refusal 29
+// or 19, and the buffer as it was.
 pub fn write_image(image_length: usize, out: &mut [u8]) -> MostAnswer
     ensures answer { λ r. ⌜ Gives mostNumbers r (heaviestAnswer «image_length» (length (now (out .entry)))) ⌝ }
     ensures output { λ r. ⌜ now (out .exit) ≡ heaviestOutput «image_length» (now (out .entry)) ⌝ }

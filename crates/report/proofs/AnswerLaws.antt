@@ -92,10 +92,10 @@ module _ (chip buffer : List ℕ) where
 -- The report of a chip that reads to Loaded is three parts, and so long.
 module _ (chip : List ℕ) (sync end writes : ℕ) (jumped : Bool) (reads : readChip chip ≡ Loaded sync end writes jumped) where
   -- It lists as many writes as it counts.
-  pub count : length (listed chip (Loaded sync end writes jumped)) ≡ writes
+  count : length (listed chip (Loaded sync end writes jumped)) ≡ writes
   count = listed-length 1 false chip 0 sync end writes jumped (omega arith) reads
 
-  pub parts : chipReport spi chip ≡ loadedLine jumped ++ writeLines (listed chip (Loaded sync end writes jumped)) ++ endLine end writes
+  parts : chipReport spi chip ≡ loadedLine jumped ++ writeLines (listed chip (Loaded sync end writes jumped)) ++ endLine end writes
   unfolding reportOf
   parts = ap (λ (o : Outcome). reportOf spi chip o) reads
 

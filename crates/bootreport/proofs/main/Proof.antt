@@ -5,7 +5,7 @@ use native.Mathlib.Omega.{arith}
 use lib.ListN.{length}
 use lib.Seq.{length-take-le}
 use Rattle.filereport.specs.Filereport.{fileReport}
-use Rattle.filereport.proofs.Laws.{reports-fit}
+use Rattle.filereport.proofs.Laws.{file-report-fits}
 use Rattle.report.proofs.Laws.{written-within}
 use borrow.Author.Needs.{needs}
 use Rattle.bootreport.proofs.main.Statement.{statement}
@@ -36,7 +36,7 @@ whole-report-requires c κs = search needs
 within : (c : tie.After-whole-report) → c .whole-report .result ≤ length (c .whole-report .last .1 .0)
 within c =
     let out = c .before .before .before .output .result in
-    let fits = written-within (fileReport _) out _ (reports-fit .written _ (length out) (omega arith)) in
+    let fits = written-within (fileReport _) out _ (file-report-fits .written _ (length out) (omega arith)) in
     rw (c .whole-report .ensures .0, c .whole-report .ensures .1) fits
 
 array-share-prefix-out : tie.Need-array-share-prefix-out
