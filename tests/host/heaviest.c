@@ -1,13 +1,14 @@
 /* tealsettle_most_writes and tealsettle_heaviest_image: for every length from 12 to 9,000 the number is the greatest by a search
  * through all ways to divide so many words into packets; for these and some large ones the image has just as many by the image
  * check and is the reference's byte for byte, at the front of its buffer. A buffer that is too small, and lengths that no image
- * has, are refused, and nothing is written. Random images have no more writes than the number for their length. */
+ * has, are refused, and nothing is written. The number alone is compared for every length, and random images have no more writes
+ * than the number for theirs. */
 #include "compare.h"
 #include "make.h"
 
 #include <stdlib.h>
 
-enum { SHORTEST = 12, LONGEST = 16 << 20, EVERY = 9000, WORDS = EVERY / 4, MOST_OF_TYPE1 = 2047, RANDOM = 300000, LARGE = 40 };
+enum { SHORTEST = 12, LONGEST = 16 << 20, EVERY = 9000, WORDS = EVERY / 4, MOST_OF_TYPE1 = 2047, RANDOM = 300000, LARGE = 20 };
 enum { MORE = 4096, MARGIN = 64 }; /* room after an image, and bytes after the room */
 
 static uint8_t *out, *expected;
@@ -77,11 +78,24 @@ static int image_differs(size_t n, size_t more)
            bytes_differ("bytes of the image, and those after it", out, expected, n + more + MARGIN) || check_differs(n, writes);
 }
 
-/* An image with little room after it and with much, and no room for it. */
+/* An image with no room after it, and with more; and no room for it. */
 static int length_differs(size_t n)
 {
-    return image_differs(n, below(MARGIN)) || image_differs(n, MORE) || refusal_differs(TEALSETTLE_REFUSED_NO_ROOM, n, n - 1) ||
-           refusal_differs(TEALSETTLE_REFUSED_NO_ROOM, n, below(n));
+    return image_differs(n, 0) || image_differs(n, one_in(2) ? MORE : below(MARGIN)) ||
+           refusal_differs(TEALSETTLE_REFUSED_NO_ROOM, n, n - 1) || refusal_differs(TEALSETTLE_REFUSED_NO_ROOM, n, below(n));
+}
+
+/* The number alone, for every length. */
+static int try_numbers(void)
+{
+    for (size_t n = 0; n <= LONGEST + MORE; n++) {
+        size_t writes;
+        uint32_t number = reference_most_writes(n, &writes);
+        tried++;
+        if (most_differs("the number", tealsettle_most_writes(n), number, writes))
+            return 1;
+    }
+    return 0;
 }
 
 static int try_every(void)
@@ -143,10 +157,9 @@ int main(void)
 {
     out = malloc(LONGEST + MORE + MARGIN);
     expected = malloc(LONGEST + MORE + MARGIN);
-    if (!out || !expected || try_every() || try_often(LARGE, try_large) || try_longest() || try_lengths() ||
+    if (!out || !expected || try_numbers() || try_every() || try_often(LARGE, try_large) || try_longest() || try_lengths() ||
         try_often(RANDOM, try_random))
         return 1;
-    printf("host test: %ld images with most writes, refusals and random images, %ld of them accepted: none has more writes\n", tried,
-           images);
+    printf("host test: %ld lengths, images and refusals for the most writes, %ld images accepted: none has more\n", tried, images);
     return 0;
 }
