@@ -61,10 +61,11 @@ static void put_command(Stream *s, uint32_t word)
     put_word(s, word);
 }
 
+/* Any that may be written, but CMD. */
 static uint32_t some_register(void)
 {
-    uint32_t reg = (uint32_t)below(31);
-    return reg < CMD ? reg : reg + 1; /* any but CMD */
+    static const uint8_t listed[] = {0, 1, 2, 3, 5, 6, 7, 8, 9, 10, 11, 12, 13, 14, 16, 17, 22, 24, 31};
+    return listed[below(sizeof listed)];
 }
 
 /* ---- Chips ---- */
@@ -206,12 +207,12 @@ void make_noise(uint8_t *chip)
 #define NOP8 NOP, NOP, NOP, NOP, NOP, NOP, NOP, NOP
 #define NOP100 NOP8, NOP8, NOP8, NOP8, NOP8, NOP8, NOP8, NOP8, NOP8, NOP8, NOP8, NOP8, NOP, NOP, NOP, NOP
 
-/* What comes before the frames and after them: the words of a bitstream for an XC7A35T. The reader does not ask whether
- * the two CRCs are right. */
+/* What comes before the frames and after them: the words of a bitstream for an XC7A35T, but for its write to register 19,
+ * which the reader refuses: there are two no-operations instead. The reader does not ask whether the two CRCs are right. */
 static const uint32_t FRONT[] = {
     0xFFFFFFFF, 0xFFFFFFFF, 0xFFFFFFFF, 0xFFFFFFFF, 0xFFFFFFFF, 0xFFFFFFFF, 0xFFFFFFFF, 0xFFFFFFFF, 0x000000BB, 0x11220044,
     0xFFFFFFFF, 0xFFFFFFFF, SYNC, NOP, WRITE(31, 1), 0x0000026B, WRITE(CMD, 1), 18, NOP, WRITE(TIMER, 1), 0,
-    WRITE(WBSTAR, 1), 0, WRITE(CMD, 1), 0, NOP, WRITE(CMD, 1), RCRC, NOP, NOP, WRITE(19, 1), 0, WRITE(COR0, 1), 0x02003FE5,
+    WRITE(WBSTAR, 1), 0, WRITE(CMD, 1), 0, NOP, WRITE(CMD, 1), RCRC, NOP, NOP, NOP, NOP, WRITE(COR0, 1), 0x02003FE5,
     WRITE(COR1, 1), 0, WRITE(IDCODE, 1), 0x0362D093, WRITE(CMD, 1), SWITCH, NOP, WRITE(MASK, 1), 0x00000401,
     WRITE(CTL0, 1), 0x00000501, WRITE(MASK, 1), 0, WRITE(CTL1, 1), 0, NOP8, WRITE(FAR, 1), 0, WRITE(CMD, 1), WCFG, NOP,
 };

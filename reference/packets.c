@@ -11,6 +11,9 @@
 
 enum { CMD = 4, WBSTAR = 16 };
 
+/* The registers that a write header may name, a bit for each: 0 to 14, 16, 17, 22, 24 and 31. */
+#define REGISTERS 0x81437FFFu
+
 /* What comes next in a reading of packets, or how it ends. */
 typedef enum { DATA, HEADER, ENDED, JUMPS, FAULT, SHORT } Status;
 
@@ -67,9 +70,10 @@ static inline Status take_header(const uint8_t *bytes, size_t length, Scanner *s
         s->at += 4, s->left = 0;
         return HEADER;
     }
-    if ((word & 0xFFFC1800u) != 0x30000000u)
+    uint32_t reg = word >> 13 & 31;
+    if ((word & 0xFFFC1800u) != 0x30000000u || (REGISTERS >> reg & 1) == 0)
         return FAULT;
-    s->at += 4, s->reg = word >> 13 & 31, s->left = word & 0x7FF;
+    s->at += 4, s->reg = reg, s->left = word & 0x7FF;
     if (s->left == 0)
         take_type2(bytes, length, s);
     return DATA;

@@ -16,7 +16,7 @@ static int build(const Arguments *arguments)
     TealsettleBuild answer =
         tealsettle_build(TEALSETTLE_SPI, length, update, area, golden.bytes, golden.length, chip.bytes, room);
     if (answer.number != 0)
-        return refused_run(chip.name, golden.name, answer.number, answer.place);
+        return refused_run(chip.name, &golden, answer.number, answer.place);
     FILE *messages = is_standard_output(arguments->output) ? stderr : stdout;
     write_file(arguments->output, chip.bytes, chip.length);
     return say_boot(messages, &chip);

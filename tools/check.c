@@ -22,7 +22,7 @@ static int check(const Arguments *arguments)
         return status;
     TealsettleImage answer = tealsettle_image_check(TEALSETTLE_SPI, image.bytes, image.length);
     if (answer.number != 0)
-        return refused(image.name, answer.number, answer.place);
+        return refused_image(&image, answer.number, answer.place);
     if (arguments->writes)
         print_writes(&image);
     printf("image of %zu bytes: sync %zu, end %zu, writes %zu\n", image.length, answer.sync, answer.end, answer.writes);

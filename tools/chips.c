@@ -19,16 +19,23 @@ size_t read_area(const Arguments *arguments, size_t length, size_t update)
     return arguments->area.given ? arguments->area.value : rest;
 }
 
-int refused_run(const char *chip, const char *image, uint32_t number, size_t place)
+int refused_run(const char *chip, const File *image, uint32_t number, size_t place)
 {
     switch (number) {
     case TEALSETTLE_REFUSED_BAD_IMAGE_LENGTH:
     case TEALSETTLE_REFUSED_IMAGE_FAULT:
     case TEALSETTLE_REFUSED_IMAGE_JUMPS:
-        return refused(image, number, place);
+        return refused_image(image, number, place);
     default:
         return refused(chip, number, place);
     }
+}
+
+void say_stuck(const File *chip, size_t place)
+{
+    const char *why = register_words(chip, place);
+    if (why)
+        fprintf(stderr, "tealsettle: %s: stuck at %zu: %s\n", chip->name, place, why);
 }
 
 int say_boot(FILE *to, const File *chip)
@@ -38,6 +45,7 @@ int say_boot(FILE *to, const File *chip)
         return refused(chip->name, boot.number, boot.place);
     if (!tealsettle_loads(boot)) {
         fprintf(to, "loads nothing: stuck at %zu\n", boot.place);
+        say_stuck(chip, boot.place);
         return ANSWER_NO;
     }
     fprintf(to, "loads %s: sync %zu, end %zu, writes %zu\n", boot.jumped ? "update" : "golden", boot.sync, boot.end,

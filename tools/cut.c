@@ -23,7 +23,7 @@ static int cut_flash(const Arguments *arguments, const Flash *flash, const File 
     if (answer.number == TEALSETTLE_REFUSED_BAD_DAMAGE)
         return refused(damage->name, answer.number, answer.place);
     if (answer.number != 0)
-        return refused_run(chip.name, image->name, answer.number, answer.place);
+        return refused_run(chip.name, image, answer.number, answer.place);
     size_t total = tealsettle_total(TEALSETTLE_SPI, chip.length, place, area, image->length).orders;
     check_named(flash);
     replace_file(chip.name, chip.bytes, chip.length);

@@ -51,3 +51,9 @@ int read_packed_image(const char *name, File *image)
         form.form = TEALSETTLE_TEXT;
     return image_of_form(&file, &form, image);
 }
+
+int refused_image(const File *image, uint32_t number, size_t place)
+{
+    const char *why = number == TEALSETTLE_REFUSED_IMAGE_FAULT ? register_words(image, place) : NULL;
+    return refused_because(image->name, number, place, why ? why : tealsettle_refusal_words(number));
+}

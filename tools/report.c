@@ -13,7 +13,10 @@ static int report(const Arguments *arguments)
     if (answer.number != 0)
         return refused(chip.name, answer.number, answer.place);
     fwrite(text, 1, answer.length, stdout);
-    return tealsettle_loads(boot) ? DONE : ANSWER_NO;
+    if (tealsettle_loads(boot))
+        return DONE;
+    say_stuck(&chip, boot.place);
+    return ANSWER_NO;
 }
 
 const Command report_command = {

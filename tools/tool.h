@@ -131,6 +131,15 @@ int read_image(const char *name, File *image);
 /* The same of MCS text or a BIT file. All else is refused as text. */
 int read_packed_image(const char *name, File *image);
 
+/* The refusal of an image. */
+int refused_image(const File *image, uint32_t number, size_t place);
+
+/* ---- registers.c: registers that may not be written ---- */
+
+/* Why an image has a fault at this place, or a chip is stuck there, if that is for the register that a write header names there: in
+ * words, which also say if it would load with such registers admitted. Else null. */
+const char *register_words(const File *file, size_t place);
+
 /* ---- chips.c: a chip's layout, and what it loads ---- */
 
 /* The place that segment 1 of a chip names. DONE; or a refusal, which has been said. */
@@ -140,10 +149,13 @@ int read_update_place(const File *chip, size_t *update);
 size_t read_area(const Arguments *arguments, size_t length, size_t update);
 
 /* The refusal of a call on a layout and an image, said of the one that it concerns. */
-int refused_run(const char *chip, const char *image, uint32_t number, size_t place);
+int refused_run(const char *chip, const File *image, uint32_t number, size_t place);
 
 /* Says in a line what a chip loads. DONE; or ANSWER_NO for a chip that is stuck or refused. */
 int say_boot(FILE *to, const File *chip);
+
+/* Says on standard error why a chip is stuck at a place, where that is for a register that may not be written. */
+void say_stuck(const File *chip, size_t place);
 
 /* ---- flash.c: a chip's file as its flash ---- */
 

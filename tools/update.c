@@ -26,7 +26,7 @@ static int update_flash(Flash *flash, size_t length, size_t place, size_t area, 
     if (result.number == TEALSETTLE_ABANDONED)
         trouble(flash->name, joined(flash->why, ": the run has not come to its end; run it again"));
     if (result.number != 0 && result.order == 0)
-        return refused_run(flash->name, image->name, result.number, result.place);
+        return refused_run(flash->name, image, result.number, result.place);
     check_named(flash);
     File chip = read_flash(flash);
     int status = say_boot(stdout, &chip);

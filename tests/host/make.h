@@ -90,12 +90,22 @@ static inline void put_write(uint32_t reg, uint32_t word)
     put_word(word);
 }
 
+/* A register that may be written; in a stream in which something is wrong, now and then any that five bits can name. */
+static inline uint32_t some_register(int wrong)
+{
+    static const uint8_t listed[] = {0, 1, 2, 3, 4, 5, 6, 7, 8, 9, 10, 11, 12, 13, 14, 16, 17, 22, 24, 31};
+    if (wrong && one_in(12))
+        return (uint32_t)below(32);
+    return one_in(3) ? 4 : one_in(5) ? 16 : listed[below(sizeof listed)];
+}
+
 /* A word that is likely to be mistaken for another. */
 static inline uint32_t odd_word(void)
 {
     static const uint32_t words[] = {0xAA995566u, 0x20000000u, 0x20000001u, 0x30008001u, 0x30008000u, 0x50000001u, 0x50000000u,
                                      0x0000000Du, 0x0000000Fu, 0x8000000Du, 0x30020001u, 0x28000000u, 0x38008001u, 0x48000001u,
-                                     0x30008801u, 0x31008001u, 0x20008000u, 0x70000000u, 0xFFFFFFFFu, 0x00000000u, 0x6000C001u};
+                                     0x30008801u, 0x31008001u, 0x20008000u, 0x70000000u, 0xFFFFFFFFu, 0x00000000u, 0x6000C001u,
+                                     0x3001E000u, 0x3001E001u, 0x30026001u};
     return one_in(3) ? (uint32_t)next_random() : words[below(sizeof words / sizeof *words)];
 }
 
@@ -120,7 +130,7 @@ static inline uint32_t some_count(void)
 /* One packet, and now and then something that is none. */
 static inline void put_packet(int wrong)
 {
-    uint32_t reg = (uint32_t)(one_in(3) ? 4 : one_in(5) ? 16 : below(32)), count = some_count();
+    uint32_t reg = some_register(wrong), count = some_count();
     switch (wrong && one_in(12) ? 3 + below(3) : below(3)) {
     case 0:
         put_word(0x20000000u);

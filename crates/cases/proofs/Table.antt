@@ -27,7 +27,7 @@ use Rattle.digits.specs.Digit.{digits, byteSum, placeIn, digitOf}
 use Rattle.mcsline.specs.Line.{isEnding, onto, bySpelled, spelledBy, lineSpells, byType, typed, parsed, byParsed}
 use Rattle.mcs.specs.Reading.{prepend, linesOf, follows, isEmpty, readLines}
 use Rattle.mcs.specs.Reader.{readNumbers, answerOf, heldOutput}
-use Rattle.cases.specs.Cases.{Holds, All, has, most, jumping, rows}
+use Rattle.cases.specs.Cases.{Holds, All, has, most, jumping, register15, ended15, rows}
 
 -- The image with most writes: what the image check says of it is a theorem, so the image is not written out.
 most-row : (n : ℕ) → heaviestLengthAllowed n ≡ true → Holds (most n (has (mostWrites n) (4 * (n / 4))))
@@ -60,6 +60,10 @@ table =
     also (λ rest h. rw (program-computed 0 0xAA995566 (omega arith) (omega arith)) refl)
     also (λ rest h. rw (erase-computed 0 (omega arith)) refl)
     also (λ rest h. rw (erase-computed 0xFFFFFFFF (omega arith)) refl)
+    also (λ rest h. rw (le-leb 1 (length (register15 0 ++ rest)) (omega arith), le-leb (length (register15 0 ++ rest)) 16777216 (omega arith)) refl)
+    also (λ rest h. rw (le-leb 1 (length (register15 1 ++ rest)) (omega arith), le-leb (length (register15 1 ++ rest)) 16777216 (omega arith)) refl)
+    also (λ rest h. rw (le-leb 1 (length (register15 2047 ++ rest)) (omega arith), le-leb (length (register15 2047 ++ rest)) 16777216 (omega arith)) refl)
+    also (λ rest h. rw (le-leb 1 (length (ended15 ++ rest)) (omega arith), le-leb (length (ended15 ++ rest)) 16777216 (omega arith)) refl)
     also most-row 12 refl
     also most-row 8196 refl
     also most-row 8200 refl

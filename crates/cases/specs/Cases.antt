@@ -1,5 +1,5 @@
 -- Document 01's starred proof cases, and cases of document 02's requests: the rows of one table, under one proposition.
-use Prim.Native.Nat.{ℕ, _≤_}
+use Prim.Native.Nat.{ℕ, _+_, _/_, _%_, _≤_}
 use mathlib.Core.Path.{_≡_}
 use mathlib.Core.List.{List, [], _∷_, _++_}
 use lib.ListN.{length, take, replicate}
@@ -119,6 +119,14 @@ twelveText =
 abbrev pub jumping : List ℕ
 jumping = 0xAA ∷ 0x99 ∷ 0x55 ∷ 0x66 ∷ 0x30 ∷ 0x00 ∷ 0x80 ∷ 0x01 ∷ 0x00 ∷ 0x00 ∷ 0x00 ∷ 0x0F ∷ []
 
+-- AA995566 and a write header that names register 15, with this count
+abbrev pub register15 : ℕ → List ℕ
+register15 count = 0xAA ∷ 0x99 ∷ 0x55 ∷ 0x66 ∷ 0x30 ∷ 0x01 ∷ (0xE0 + count / 256) ∷ (count % 256) ∷ []
+
+-- AA995566 30008001 0000000D 3001E001
+abbrev pub ended15 : List ℕ
+ended15 = 0xAA ∷ 0x99 ∷ 0x55 ∷ 0x66 ∷ 0x30 ∷ 0x00 ∷ 0x80 ∷ 0x01 ∷ 0x00 ∷ 0x00 ∷ 0x00 ∷ 0x0D ∷ 0x30 ∷ 0x01 ∷ 0xE0 ∷ 0x01 ∷ []
+
 unfoldable pub rows : List Row
 rows =
     -- image AA995566 30008001 0000000D: Loaded, sync 0, end 12, one write
@@ -157,6 +165,12 @@ rows =
     ∷ eraseCut 0x00000000 (counts 4294967296 1)
     -- an erase of FFFFFFFF: that word
     ∷ eraseCut 0xFFFFFFFF (counts 1 0)
+    -- document 02, M-101: register 15, with a count of 0, 1 and 2,047, whatever follows: 5 at the header
+    ∷ imageAndMore (register15 0) 16777208 (refuses 5 4)
+    ∷ imageAndMore (register15 1) 16777208 (refuses 5 4)
+    ∷ imageAndMore (register15 2047) 16777208 (refuses 5 4)
+    -- after DESYNC such a header is unread
+    ∷ imageAndMore ended15 16777200 (loads 0 12 1)
     -- document 02, M-111: the shortest image has one write
     ∷ most 12 (has 1 12)
     -- w = 2,049: w - 2 writes, and beyond w - 3

@@ -1,6 +1,6 @@
 -- One word as a packet header, and what a data word does. Document 01, "How the configuration reader reads".
 use Prim.Native.Nat.{ℕ, _/_, _%_, _^_}
-use mathlib.Core.Bool.{Bool, true, false}
+use mathlib.Core.Bool.{Bool, true, false, _||_}
 use lib.Dec.{eqb, ltb}
 use Rattle.base.specs.Question.{ask}
 use Rattle.packets.specs.Types.{Header, Nop, Type1, Type2, BadHeader, Effect, GoesOn, Desync, EffectIprog}
@@ -21,9 +21,15 @@ DESYNC = 0x0000000D
 abbrev pub IPROG : ℕ
 IPROG = 0x0000000F
 
--- Which registers may a write header name? Every one that its five bits can.
+-- A write header names a register that the FPGA guide lists: 0 to 14, 16, 17, 22, 24 or 31.
 unfoldable pub registerOk : ℕ → Bool
-registerOk register = ltb register 32
+registerOk register =
+    ltb register 15
+    || eqb register 16
+    || eqb register 17
+    || eqb register 22
+    || eqb register 24
+    || eqb register 31
 
 -- Type 1: bits 26 to 18 and 12 to 11 are 0. Bits 28 to 27 are the operation: 10 writes as many data words as bits 10 to 0 say to the register in bits 17 to 13; 00 is a no-operation, whose register and count are 0; 01 and 11 are faults.
 unfoldable pub type1Of : ℕ → Header

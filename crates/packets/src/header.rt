@@ -31,11 +31,16 @@ pub enum Effect {
     Iprog,
 }
 
-// May a write header name this register? All that its five bits can name, for now.
+// May a write header name this register? `|` and not `||`: no branches.
 fn register_ok(register: u32) -> bool
     ensures { λ r. ⌜ r ≡ registerOk register ⌝ }
 {
-    register < 32
+    (register < 15)
+        | (register == 16)
+        | (register == 17)
+        | (register == 22)
+        | (register == 24)
+        | (register == 31)
 }
 
 fn type1(word: u32) -> Header
