@@ -1,7 +1,7 @@
 // One word as a packet header, and what one data word does to the reading.
 ghost use mathlib.Core.Path.{_≡_};
 ghost use mathlib.Core.Bool.{true};
-ghost use Prim.Native.Nat.{_/_, _%_};
+ghost use Prim.Native.Nat.{_/_, _%_, _<_};
 ghost use Rattle.packets.specs.Types.{Type1, Type2};
 ghost use Rattle.packets.specs.Header.{registerOk, type1Of, type2Of, headOf, effectOf};
 
@@ -31,16 +31,16 @@ pub enum Effect {
     Iprog,
 }
 
-// May a write header name this register? `|` and not `||`: no branches.
+// The registers that a write header may name, a bit for each.
+const REGISTERS: u32 = 0x7FFF + (1 << 16) + (1 << 17) + (1 << 22) + (1 << 24) + (1 << 31);
+
+// May a write header name this register? By its bit: tests of its number one after another are a branch each, and headers
+// that come in no order of their registers are then guessed wrong.
 fn register_ok(register: u32) -> bool
+    requires { ⌜ register < 32 ⌝ }
     ensures { λ r. ⌜ r ≡ registerOk register ⌝ }
 {
-    (register < 15)
-        | (register == 16)
-        | (register == 17)
-        | (register == 22)
-        | (register == 24)
-        | (register == 31)
+    (REGISTERS >> register) % 2 == 1
 }
 
 fn type1(word: u32) -> Header
