@@ -1,20 +1,23 @@
 -- Laws of whole packets skipped at once.
 use Prim.Native.Nat.{ℕ, _+_, _<_, _≤_}
-use mathlib.Core.Path.{_≡_, refl, sym, ap, _∙_}
-use mathlib.Core.Bool.{Bool, true, false}
+use mathlib.Core.Path.{_≡_, refl, sym, ap, subst, _∙_}
+use mathlib.Core.Bool.{Bool, true, false, not, _&&_}
 use mathlib.Core.Option.{some}
 use mathlib.Core.List.{List}
 use native.Mathlib.Omega.{arith}
+use borrow.Author.Tests.{not-true}
+use lib.Dec.{eqb}
 use lib.ListN.{length, getD, drop}
 use Rattle.base.specs.Question.{ask}
+use Rattle.base.proofs.Laws.{both-true}
 use Rattle.framing.specs.Words.{words, wordAt}
 use Rattle.framing.proofs.Laws.{room}
-use Rattle.packets.specs.Header.{headOf, effectOf, type1Of}
+use Rattle.packets.specs.Header.{CMD, WBSTAR, registerOk, headOf, effectOf, type1Of}
 use Rattle.packets.specs.Trace.{opened, modeOf, afterHeader}
 use Rattle.fastpath.specs.Types.{Type1, Type2, GoesOn, Scanner}
 use Rattle.scanner.specs.Scan.{beforeOf, scannerAfterHeader, scannerAfterPacket, AtHeader}
 use Rattle.scanner.proofs.Laws.{header-on, data-past, some-mode}
-use Rattle.fastpath.specs.Fastpath.{NOP, PacketBegins, SkipKeeps}
+use Rattle.fastpath.specs.Fastpath.{NOP, PacketBegins, CountedBegins, SkipKeeps}
 
 pub past-none : (s : List ℕ) (w : Scanner) → AtHeader w → SkipKeeps s w w
 past-none s w ready = record { same = refl; ready = ready; on = omega arith; within = λ h. h }
@@ -60,3 +63,25 @@ past-whole s w register count ready h e some-data skip enough quiet = record {
   on = omega arith;
   within = λ l. omega (arith, enough, room s (w .at + 4));
 }
+
+counted-only : (register word : ℕ) → eqb register CMD ≡ false → effectOf register word ≡ GoesOn
+unfolding effectOf ask
+counted-only register word no-command = rw no-command refl
+
+after-same : (s : List ℕ) (w : Scanner) (register count : ℕ) → eqb register WBSTAR ≡ false → scannerAfterPacket s (scannerAfterHeader w register count true) ≡ scannerAfterPacket s (scannerAfterHeader w 0 count true)
+after-same s w register count no-place = rw no-place refl
+
+-- a packet whose words are only counted: after it the scanner is as after such a packet of register 0
+pub past-counted : (s : List ℕ) (w : Scanner) (count : ℕ) → AtHeader w → w .at + 4 ≤ length s → CountedBegins s w count →
+    1 ≤ count → count ≤ w .skip → count ≤ length (words (drop (w .at + 4) s)) → SkipKeeps s w (scannerAfterPacket s (scannerAfterHeader w 0 count true))
+past-counted s w count ready h p some-data skip enough =
+    subst (SkipKeeps s w) (after-same s w (p .register) count (p .no-place))
+    (past-whole s w (p .register) count ready h (p .begins) some-data skip enough (λ i less. counted-only (p .register) _ (p .no-command)))
+
+-- what a yes to "is it a plain register" says
+pub plain-begins : (s : List ℕ) (w : Scanner) (register count : ℕ) → (registerOk register && not (eqb register CMD) && not (eqb register WBSTAR)) ≡ true →
+    (registerOk register ≡ true → PacketBegins s w register count) → CountedBegins s w count
+plain-begins s w register count plain begins =
+    let (may, no-place) = both-true (registerOk register && not (eqb register CMD)) _ plain in
+    let (ok, no-command) = both-true (registerOk register) _ may in
+    record { register = register; begins = begins ok; no-command = not-true _ no-command; no-place = not-true _ no-place }

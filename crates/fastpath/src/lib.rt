@@ -5,17 +5,19 @@ ghost use mathlib.Core.Bool.{true};
 ghost use Prim.Native.Nat.{ℕ, _+_, _<_, _≤_};
 ghost use lib.ListN.{length, getD, drop};
 ghost use Rattle.framing.specs.Words.{words, wordAt};
-ghost use Rattle.packets.specs.Header.{headOf, effectOf};
+ghost use Rattle.packets.specs.Header.{registerOk, headOf, effectOf};
 ghost use Rattle.fastpath.specs.Types.{GoesOn, Type1};
 ghost use Rattle.scanner.specs.Scan.{AtHeader};
-ghost use Rattle.fastpath.specs.Fastpath.{PacketBegins, SkipKeeps};
+ghost use Rattle.fastpath.specs.Fastpath.{PacketBegins, CountedBegins, SkipKeeps};
 use base::min;
 use framing::words::word_at;
 use framing::words::words_from;
 use packets::header::CMD;
 use packets::header::NOP;
-use packets::header::is_type1_write;
+use packets::header::is_plain_register;
+use packets::header::is_type1_form;
 use packets::header::is_type2_write;
+use packets::header::register_ok;
 use scanner::scan::Scanner;
 use scanner::scan::after_header;
 use scanner::scan::after_packet;
@@ -55,10 +57,25 @@ fn skip_data(s: &[u8], w: Scanner, register: u32, count: usize, room: usize) -> 
     after_packet(s, after_header(w, register, count, true))
 }
 
+// The same of a packet whose words are only counted. Its register is not kept, so it is passed as one of register 0: what
+// would be asked of other registers falls away.
+fn skip_counted(s: &[u8], w: Scanner, count: usize, room: usize) -> Scanner
+    requires { ⌜ AtHeader w × (w .at + 4 ≤ length (now s)) × (1 ≤ count → CountedBegins (now s) w count) × (room ≤ w .skip) × (count ≤ room → count ≤ length (words (drop (w .at + 4) (now s)))) ⌝ }
+    ensures { λ r. ⌜ SkipKeeps (now (s .entry)) w r ⌝ }
+{
+    if count == 0 {
+        return w;
+    }
+    if room < count {
+        return w;
+    }
+    after_packet(s, after_header(w, 0, count, true))
+}
+
 // The scanner after a type 1 header with no data words, and after the type 2 packet that it opens `register`
 // to, where one follows that can be passed at once.
 fn skip_opening(s: &[u8], w: Scanner, register: u32) -> Scanner
-    requires { ⌜ AtHeader w × (w .at + 8 ≤ length (now s)) × (headOf (wordAt (now s) (w .at)) ≡ Type1 register 0) ⌝ }
+    requires { ⌜ AtHeader w × (w .at + 8 ≤ length (now s)) × (register < 32) × (headOf (wordAt (now s) (w .at)) ≡ Type1 register 0) ⌝ }
     ensures { λ r. ⌜ SkipKeeps (now (s .entry)) w r ⌝ }
 {
     let opened = after_header(w, register, 0, true);
@@ -68,7 +85,28 @@ fn skip_opening(s: &[u8], w: Scanner, register: u32) -> Scanner
     }
     let count = (word % 0x0800_0000) as usize;
     let room = min(opened.skip, words_from(s, opened.at + 4));
+    if is_plain_register(register) {
+        return skip_counted(s, opened, count, room);
+    }
     skip_data(s, opened, register, count, room)
+}
+
+// The scanner after a packet of one data word; or as it was. That its register may be named and that the word is only counted
+// is one test: so such packets cost no more tests than if every register might be named.
+fn skip_one(s: &[u8], w: Scanner, register: u32) -> Scanner
+    requires { ⌜ AtHeader w × (w .at + 8 ≤ length (now s)) × (register < 32) × (registerOk register ≡ true → headOf (wordAt (now s) (w .at)) ≡ Type1 register 1) ⌝ }
+    ensures { λ r. ⌜ SkipKeeps (now (s .entry)) w r ⌝ }
+{
+    if register == CMD {
+        return skip_data(s, w, register, 1, w.skip);
+    }
+    if is_plain_register(register) {
+        return skip_counted(s, w, 1, w.skip);
+    }
+    if !register_ok(register) {
+        return w;
+    }
+    skip_data(s, w, register, 1, w.skip)
 }
 
 // The scanner after the packet whose header is `word`, the word at its place; or as it was. Packets of one
@@ -80,16 +118,19 @@ fn skip_packet(s: &[u8], w: Scanner, word: u32) -> Scanner
     if word == NOP {
         return after_header(w, 0, 0, false);
     }
-    if !is_type1_write(word) {
+    if !is_type1_form(word) {
         return w;
     }
     let register = word / 0x2000 % 32;
     let count = word % 0x0800;
+    if count == 1 {
+        return skip_one(s, w, register);
+    }
+    if !register_ok(register) {
+        return w;
+    }
     if count == 0 {
         return skip_opening(s, w, register);
-    }
-    if count == 1 {
-        return skip_data(s, w, register, 1, w.skip);
     }
     let room = min(w.skip, words_from(s, w.at + 4));
     if count == 2 {

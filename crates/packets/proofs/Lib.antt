@@ -1,3 +1,4 @@
+mod BitLaws
 pub mod HeaderLaws
 pub mod TraceLaws
 pub mod CostLaws

@@ -1,6 +1,7 @@
 // One word as a packet header, and what one data word does to the reading.
 ghost use mathlib.Core.Path.{_≡_};
-ghost use mathlib.Core.Bool.{true};
+ghost use mathlib.Core.Bool.{true, not, _&&_};
+ghost use lib.Dec.{eqb};
 ghost use Prim.Native.Nat.{_/_, _%_, _<_};
 ghost use Rattle.packets.specs.Types.{Type1, Type2};
 ghost use Rattle.packets.specs.Header.{registerOk, type1Of, type2Of, headOf, effectOf};
@@ -34,13 +35,24 @@ pub enum Effect {
 // The registers that a write header may name, a bit for each.
 const REGISTERS: u32 = 0x7FFF + (1 << 16) + (1 << 17) + (1 << 22) + (1 << 24) + (1 << 31);
 
+// Those of them whose words are only counted.
+const PLAIN: u32 = REGISTERS - (1 << CMD) - (1 << WBSTAR);
+
 // May a write header name this register? By its bit: tests of its number one after another are a branch each, and headers
 // that come in no order of their registers are then guessed wrong.
-fn register_ok(register: u32) -> bool
+pub fn register_ok(register: u32) -> bool
     requires { ⌜ register < 32 ⌝ }
     ensures { λ r. ⌜ r ≡ registerOk register ⌝ }
 {
     (REGISTERS >> register) % 2 == 1
+}
+
+// May a write header name this register, and are its words only counted? One test for the three.
+pub fn is_plain_register(register: u32) -> bool
+    requires { ⌜ register < 32 ⌝ }
+    ensures { λ r. ⌜ r ≡ (registerOk register && not (eqb register 4) && not (eqb register 16)) ⌝ }
+{
+    (PLAIN >> register) % 2 == 1
 }
 
 fn type1(word: u32) -> Header
@@ -97,15 +109,23 @@ pub fn header_of(word: u32) -> Header
     Header::Fault
 }
 
-// Is this the header of a type 1 write? A yes is sure; after a no, `header_of` decides. Here and below the
-// word is compared whole, not field by field, so that it is loaded at once where many headers are looked at.
-pub fn is_type1_write(word: u32) -> bool
-    ensures { λ r. ⌜ (r ≡ true → headOf word ≡ Type1 (word / 8192 % 32) (word % 2048)) ⌝ }
+// Is this the header of a type 1 write, if the register that it names may be written? A yes is sure; after a no,
+// `header_of` decides. Here and below the word is compared whole, not field by field, so that it is loaded at once where
+// many headers are looked at.
+pub fn is_type1_form(word: u32) -> bool
+    ensures { λ r. ⌜ (r ≡ true → registerOk (word / 8192 % 32) ≡ true → headOf word ≡ Type1 (word / 8192 % 32) (word % 2048)) ⌝ }
 {
     if word / 0x0004_0000 != 0x0C00 {
         return false;
     }
-    if word % 0x2000 >= 0x0800 {
+    word % 0x2000 < 0x0800
+}
+
+// Is this the header of a type 1 write? A yes is sure here too.
+pub fn is_type1_write(word: u32) -> bool
+    ensures { λ r. ⌜ (r ≡ true → headOf word ≡ Type1 (word / 8192 % 32) (word % 2048)) ⌝ }
+{
+    if !is_type1_form(word) {
         return false;
     }
     register_ok(word / 0x2000 % 32)

@@ -1,27 +1,33 @@
 -- `skip_packet` meets its contract.
 use Prim.Native.Nat.{ℕ, _+_, _/_, _%_, _≤_}
 use mathlib.Core.Path.{_≡_, refl, sym, ap, _∙_}
+use mathlib.Core.Bool.{true}
 use native.Mathlib.Omega.{arith}
 use borrow.Author.Tests.{not-false}
 use Rattle.framing.specs.Words.{wordAt}
-use Rattle.packets.specs.Header.{headOf}
+use Rattle.packets.specs.Header.{registerOk, headOf}
 use Rattle.fastpath.specs.Fastpath.{PacketBegins}
 use Rattle.fastpath.specs.Types.{Type1}
-use Rattle.framing.proofs.Laws.{room}
 use Rattle.fastpath.proofs.SkipLaws.{past-none, past-nop, begins-type1}
 use borrow.Author.Needs.{needs}
 use Rattle.fastpath.proofs.skip_packet.Statement.{statement}
 use Rattle.fastpath.proofs.skip_packet.Tie as tie
 
--- a type 1 write of the register that its field says, and of so many data words
-head-is : (c : tie.Else2) (count : ℕ) → c .before .before .before .before .args .word % 2048 ≡ count → headOf (wordAt (c .before .before .before .before .args .s .now) (c .before .before .before .before .args .w .at)) ≡ Type1 (c .before .before .before .before .args .word / 8192 % 32) count
-head-is c count e =
+-- a type 1 write of the register that its field says, if that may be named, and of so many data words
+head-is : (c : tie.Else2) (count : ℕ) → c .before .before .before .before .args .word % 2048 ≡ count → registerOk (c .before .before .before .before .args .word / 8192 % 32) ≡ true →
+    headOf (wordAt (c .before .before .before .before .args .s .now) (c .before .before .before .before .args .w .at)) ≡ Type1 (c .before .before .before .before .args .word / 8192 % 32) count
+head-is c count e ok =
     ap headOf (sym (c .before .before .before .before .pre .2))
-    ∙ c .before .is-type1-write .ensures (not-false _ (c .if2 .left))
+    ∙ c .before .is-type1-form .ensures (not-false _ (c .if2 .left)) ok
     ∙ ap (λ (n : ℕ). Type1 (c .before .before .before .before .args .word / 8192 % 32) n) e
 
-begins : (c : tie.Else2) (count : ℕ) → c .before .before .before .before .args .word % 2048 ≡ count → 1 ≤ count → PacketBegins (c .before .before .before .before .args .s .now) (c .before .before .before .before .args .w) (c .before .before .before .before .args .word / 8192 % 32) count
-begins c count e = begins-type1 (c .before .before .before .before .args .s .now) (c .before .before .before .before .args .w) (c .before .before .before .before .args .word / 8192 % 32) count (head-is c count e)
+-- it may be named
+may : (c : tie.Else4) → registerOk (c .before .before .before .before .before .before .before .args .word / 8192 % 32) ≡ true
+may c = sym (c .before .register-ok .ensures) ∙ not-false _ (c .if4 .left)
+
+begins : (c : tie.Else4) (count : ℕ) → c .before .before .before .before .before .before .before .args .word % 2048 ≡ count → 1 ≤ count →
+    PacketBegins (c .before .before .before .before .before .before .before .args .s .now) (c .before .before .before .before .before .before .before .args .w) (c .before .before .before .before .before .before .before .args .word / 8192 % 32) count
+begins c count e = begins-type1 (c .before .before .before .before .before .before .before .args .s .now) (c .before .before .before .before .before .before .before .args .w) (c .before .before .before .before .before .before .before .args .word / 8192 % 32) count (head-is (c .before .before .before) count e (may c))
 
 after-header-requires : tie.Need-after-header-requires
 after-header-requires c κs = search needs
@@ -31,30 +37,29 @@ returns c =
     let p = c .before .before .before .pre in
     rw (c .after-header .ensures) (past-nop _ _ (p .0) (omega (arith, p .1)) (sym (p .2) ∙ c .before .if1 .taken))
 
-is-type1-write-requires : tie.Need-is-type1-write-requires
-is-type1-write-requires c κs = search needs
+is-type1-form-requires : tie.Need-is-type1-form-requires
+is-type1-form-requires c κs = search needs
 
 returns-2 : tie.Need-returns-2
 returns-2 c = past-none _ _ (c .before .before .before .before .pre .0)
 
-skip-opening-requires : tie.Need-skip-opening-requires
-skip-opening-requires c κs = let p = c .before .before .before .before .before .pre in (p .0, p .1, head-is (c .before) 0 (c .if3 .taken))
+skip-one-requires : tie.Need-skip-one-requires
+skip-one-requires c κs = let p = c .before .before .before .before .before .pre in (p .0, p .1, omega arith, head-is (c .before) 1 (c .if3 .taken))
 
 returns-3 : tie.Need-returns-3
 returns-3 c = search needs
 
-skip-data-requires : tie.Need-skip-data-requires
-skip-data-requires c κs =
-    let p = c .before .before .before .before .before .before .pre in (
-      p .0,
-      omega (arith, p .1),
-      begins (c .before .before) 1 (c .if4 .taken),
-      omega arith,
-      λ h. omega (arith, p .1, room (c .before .before .before .before .before .before .args .s .now) (c .before .before .before .before .before .before .args .w .at + 4)),
-    )
+register-ok-requires : tie.Need-register-ok-requires
+register-ok-requires c κs = search needs
 
 returns-4 : tie.Need-returns-4
-returns-4 c = search needs
+returns-4 c = past-none _ _ (c .before .before .before .before .before .before .before .pre .0)
+
+skip-opening-requires : tie.Need-skip-opening-requires
+skip-opening-requires c κs = let p = c .before .before .before .before .before .before .before .before .pre in (p .0, p .1, omega arith, head-is (c .before .before .before .before) 0 (c .if5 .taken) (may (c .before)))
+
+returns-5 : tie.Need-returns-5
+returns-5 c = search needs
 
 add-words-from : tie.Need-add-words-from
 add-words-from c = search needs
@@ -65,28 +70,12 @@ words-from-requires c κs = search needs
 min-requires : tie.Need-min-requires
 min-requires c κs = search needs
 
-skip-data-requires-2 : tie.Need-skip-data-requires-2
-skip-data-requires-2 c κs =
-    let p = c .before .before .before .before .before .before .before .before .before .before .pre in (
+skip-data-requires : tie.Need-skip-data-requires
+skip-data-requires c κs =
+    let p = c .before .before .before .before .before .before .before .before .before .before .before .before .pre in (
       p .0,
       omega (arith, p .1),
-      begins (c .before .before .before .before .before .before) 2 (c .if5 .taken),
-      omega (arith, c .before .min .ensures),
-      λ h. omega (arith, h, c .before .min .ensures, c .before .before .words-from .ensures),
-    )
-
-returns-5 : tie.Need-returns-5
-returns-5 c = search needs
-
-cast-skip-data : tie.Need-cast-skip-data
-cast-skip-data c = search needs
-
-skip-data-requires-3 : tie.Need-skip-data-requires-3
-skip-data-requires-3 c κs =
-    let p = c .before .before .before .before .before .before .before .before .before .before .pre in (
-      p .0,
-      omega (arith, p .1),
-      begins (c .before .before .before .before .before .before) (c .before .before .before .before .before .before .before .before .before .before .args .word % 2048) refl,
+      begins (c .before .before .before .before .before) 2 (c .if6 .taken),
       omega (arith, c .before .min .ensures),
       λ h. omega (arith, h, c .before .min .ensures, c .before .before .words-from .ensures),
     )
@@ -94,23 +83,41 @@ skip-data-requires-3 c κs =
 returns-6 : tie.Need-returns-6
 returns-6 c = search needs
 
+cast-skip-data : tie.Need-cast-skip-data
+cast-skip-data c = search needs
+
+skip-data-requires-2 : tie.Need-skip-data-requires-2
+skip-data-requires-2 c κs =
+    let p = c .before .before .before .before .before .before .before .before .before .before .before .before .pre in (
+      p .0,
+      omega (arith, p .1),
+      begins (c .before .before .before .before .before) (c .before .before .before .before .before .before .before .before .before .before .before .before .args .word % 2048) refl,
+      omega (arith, c .before .min .ensures),
+      λ h. omega (arith, h, c .before .min .ensures, c .before .before .words-from .ensures),
+    )
+
+returns-7 : tie.Need-returns-7
+returns-7 c = search needs
+
 pub skip-packet-spec : {M : Type 1} → statement M
 skip-packet-spec =
     tie.close
     (tie.spec
     after-header-requires
     returns
-    is-type1-write-requires
+    is-type1-form-requires
     returns-2
-    skip-opening-requires
+    skip-one-requires
     returns-3
-    skip-data-requires
+    register-ok-requires
     returns-4
+    skip-opening-requires
+    returns-5
     add-words-from
     words-from-requires
     min-requires
-    skip-data-requires-2
-    returns-5
+    skip-data-requires
+    returns-6
     cast-skip-data
-    skip-data-requires-3
-    returns-6)
+    skip-data-requires-2
+    returns-7)
