@@ -72,6 +72,17 @@ fn skip_counted(s: &[u8], w: Scanner, count: usize, room: usize) -> Scanner
     after_packet(s, after_header(w, 0, count, true))
 }
 
+// The one or the other, by the register, which may be named.
+fn skip_words(s: &[u8], w: Scanner, register: u32, count: usize, room: usize) -> Scanner
+    requires { ⌜ AtHeader w × (w .at + 4 ≤ length (now s)) × (register < 32) × (1 ≤ count → PacketBegins (now s) w register count) × (room ≤ w .skip) × (count ≤ room → count ≤ length (words (drop (w .at + 4) (now s)))) ⌝ }
+    ensures { λ r. ⌜ SkipKeeps (now (s .entry)) w r ⌝ }
+{
+    if is_plain_register(register) {
+        return skip_counted(s, w, count, room);
+    }
+    skip_data(s, w, register, count, room)
+}
+
 // The scanner after a type 1 header with no data words, and after the type 2 packet that it opens `register`
 // to, where one follows that can be passed at once.
 fn skip_opening(s: &[u8], w: Scanner, register: u32) -> Scanner
@@ -85,10 +96,7 @@ fn skip_opening(s: &[u8], w: Scanner, register: u32) -> Scanner
     }
     let count = (word % 0x0800_0000) as usize;
     let room = min(opened.skip, words_from(s, opened.at + 4));
-    if is_plain_register(register) {
-        return skip_counted(s, opened, count, room);
-    }
-    skip_data(s, opened, register, count, room)
+    skip_words(s, opened, register, count, room)
 }
 
 // The scanner after a packet of one data word; or as it was. That its register may be named and that the word is only counted
@@ -134,9 +142,9 @@ fn skip_packet(s: &[u8], w: Scanner, word: u32) -> Scanner
     }
     let room = min(w.skip, words_from(s, w.at + 4));
     if count == 2 {
-        return skip_data(s, w, register, 2, room);
+        return skip_words(s, w, register, 2, room);
     }
-    skip_data(s, w, register, count as usize, room)
+    skip_words(s, w, register, count as usize, room)
 }
 
 // The scanner after as many whole packets and no-operations as can be skipped. It goes by a word at a

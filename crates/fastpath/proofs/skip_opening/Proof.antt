@@ -1,12 +1,12 @@
 -- `skip_opening` meets its contract: the type 1 header is passed, and then the packet that follows.
-use Prim.Native.Nat.{_+_, _%_}
+use Prim.Native.Nat.{_+_}
 use mathlib.Core.Path.{_≡_, sym, ap, _∙_}
 use native.Mathlib.Omega.{arith}
 use borrow.Author.Tests.{not-false}
 use Rattle.packets.specs.Header.{headOf}
-use Rattle.fastpath.specs.Fastpath.{PacketBegins, SkipKeeps}
+use Rattle.fastpath.specs.Fastpath.{SkipKeeps}
 use Rattle.fastpath.specs.Types.{Scanner}
-use Rattle.fastpath.proofs.SkipLaws.{past-on, past-empty, begins-type2, plain-begins}
+use Rattle.fastpath.proofs.SkipLaws.{past-on, past-empty, begins-type2}
 use borrow.Author.Needs.{needs}
 use Rattle.fastpath.proofs.skip_opening.Statement.{statement}
 use Rattle.fastpath.proofs.skip_opening.Tie as tie
@@ -44,42 +44,23 @@ words-from-requires c κs = search needs
 min-requires : tie.Need-min-requires
 min-requires c κs = search needs
 
-is-plain-register-requires : tie.Need-is-plain-register-requires
-is-plain-register-requires c κs = c .before .before .before .before .before .before .before .before .pre .2
-
--- the packet that follows
-begins : (c : tie.After-is-plain-register) →
-    PacketBegins (c .before .before .before .before .before .before .before .before .before .args .s .now) (c .before .before .before .before .before .before .before .after-header .result) (c .before .before .before .before .before .before .before .before .before .args .register) (c .before .before .before .before .before .before .word-at .result % 134217728)
-begins c =
-    let after = c .before .before .before .before .before .before .before .after-header .ensures in
-    begins-type2 (c .before .before .before .before .before .before .before .before .before .args .s .now) (c .before .before .before .before .before .before .before .after-header .result) _ _
-    (ap headOf (sym (c .before .before .before .before .before .before .word-at .ensures)) ∙ c .before .before .before .before .before .is-type2-write .ensures (not-false _ (c .before .before .before .before .if1 .left)))
-    (ap (λ (w : Scanner). w .opened) after)
-    (ap (λ (w : Scanner). w .register) after)
-
-skip-counted-requires : tie.Need-skip-counted-requires
-skip-counted-requires c κs = (
-  opened (c .before .before .before .before .before .before .before .before) .ready,
-  omega (arith, place (c .before .before .before .before .before .before .before .before), c .before .before .before .before .before .before .before .before .before .before .pre .1),
-  λ h. plain-begins _ _ _ _ (sym (c .before .is-plain-register .ensures) ∙ c .if2 .taken) (λ ok. begins (c .before)),
-  omega (arith, c .before .before .min .ensures),
-  λ h. omega (arith, h, c .before .before .min .ensures, c .before .before .before .words-from .ensures),
-)
+skip-words-requires : tie.Need-skip-words-requires
+skip-words-requires c κs =
+    let after = c .before .before .before .before .before .before .after-header .ensures in (
+      opened (c .before .before .before .before .before .before) .ready,
+      omega (arith, place (c .before .before .before .before .before .before), c .before .before .before .before .before .before .before .before .pre .1),
+      c .before .before .before .before .before .before .before .before .pre .2,
+      λ h.
+          begins-type2 (c .before .before .before .before .before .before .before .before .args .s .now) (c .before .before .before .before .before .before .after-header .result) _ _
+          (ap headOf (sym (c .before .before .before .before .before .word-at .ensures)) ∙ c .before .before .before .before .is-type2-write .ensures (not-false _ (c .before .before .before .if1 .left)))
+          (ap (λ (w : Scanner). w .opened) after)
+          (ap (λ (w : Scanner). w .register) after),
+      omega (arith, c .min .ensures),
+      λ h. omega (arith, h, c .min .ensures, c .before .words-from .ensures),
+    )
 
 returns-2 : tie.Need-returns-2
-returns-2 c = past-on _ _ _ _ (opened (c .before .before .before .before .before .before .before .before .before)) (c .skip-counted .ensures)
-
-skip-data-requires : tie.Need-skip-data-requires
-skip-data-requires c κs = (
-  opened (c .before .before .before .before .before .before .before .before) .ready,
-  omega (arith, place (c .before .before .before .before .before .before .before .before), c .before .before .before .before .before .before .before .before .before .before .pre .1),
-  λ h. begins (c .before),
-  omega (arith, c .before .before .min .ensures),
-  λ h. omega (arith, h, c .before .before .min .ensures, c .before .before .before .words-from .ensures),
-)
-
-returns-3 : tie.Need-returns-3
-returns-3 c = past-on _ _ _ _ (opened (c .before .before .before .before .before .before .before .before .before)) (c .skip-data .ensures)
+returns-2 c = past-on _ _ _ _ (opened (c .before .before .before .before .before .before .before)) (c .skip-words .ensures)
 
 pub skip-opening-spec : {M : Type 1} → statement M
 skip-opening-spec =
@@ -93,8 +74,5 @@ skip-opening-spec =
     add-words-from
     words-from-requires
     min-requires
-    is-plain-register-requires
-    skip-counted-requires
-    returns-2
-    skip-data-requires
-    returns-3)
+    skip-words-requires
+    returns-2)

@@ -70,11 +70,12 @@ words-from-requires c κs = search needs
 min-requires : tie.Need-min-requires
 min-requires c κs = search needs
 
-skip-data-requires : tie.Need-skip-data-requires
-skip-data-requires c κs =
+skip-words-requires : tie.Need-skip-words-requires
+skip-words-requires c κs =
     let p = c .before .before .before .before .before .before .before .before .before .before .before .before .pre in (
       p .0,
       omega (arith, p .1),
+      omega arith,
       begins (c .before .before .before .before .before) 2 (c .if6 .taken),
       omega (arith, c .before .min .ensures),
       λ h. omega (arith, h, c .before .min .ensures, c .before .before .words-from .ensures),
@@ -83,14 +84,15 @@ skip-data-requires c κs =
 returns-6 : tie.Need-returns-6
 returns-6 c = search needs
 
-cast-skip-data : tie.Need-cast-skip-data
-cast-skip-data c = search needs
+cast-skip-words : tie.Need-cast-skip-words
+cast-skip-words c = search needs
 
-skip-data-requires-2 : tie.Need-skip-data-requires-2
-skip-data-requires-2 c κs =
+skip-words-requires-2 : tie.Need-skip-words-requires-2
+skip-words-requires-2 c κs =
     let p = c .before .before .before .before .before .before .before .before .before .before .before .before .pre in (
       p .0,
       omega (arith, p .1),
+      omega arith,
       begins (c .before .before .before .before .before) (c .before .before .before .before .before .before .before .before .before .before .before .before .args .word % 2048) refl,
       omega (arith, c .before .min .ensures),
       λ h. omega (arith, h, c .before .min .ensures, c .before .before .words-from .ensures),
@@ -116,8 +118,8 @@ skip-packet-spec =
     add-words-from
     words-from-requires
     min-requires
-    skip-data-requires
+    skip-words-requires
     returns-6
-    cast-skip-data
-    skip-data-requires-2
+    cast-skip-words
+    skip-words-requires-2
     returns-7)
