@@ -58,8 +58,7 @@ fn skip_data(s: &[u8], w: Scanner, register: u32, count: usize, room: usize) -> 
 }
 
 // The same of a packet whose words are only counted. Its register is not kept, so it is passed as one of register 0: what
-// would be asked of other registers falls away. A single word is told apart, so that the next place does not wait for the
-// count.
+// would be asked of other registers falls away.
 fn skip_counted(s: &[u8], w: Scanner, count: usize, room: usize) -> Scanner
     requires { ⌜ AtHeader w × (w .at + 4 ≤ length (now s)) × (1 ≤ count → CountedBegins (now s) w count) × (room ≤ w .skip) × (count ≤ room → count ≤ length (words (drop (w .at + 4) (now s)))) ⌝ }
     ensures { λ r. ⌜ SkipKeeps (now (s .entry)) w r ⌝ }
@@ -69,9 +68,6 @@ fn skip_counted(s: &[u8], w: Scanner, count: usize, room: usize) -> Scanner
     }
     if room < count {
         return w;
-    }
-    if count == 1 {
-        return after_packet(s, after_header(w, 0, 1, true));
     }
     after_packet(s, after_header(w, 0, count, true))
 }
