@@ -49,8 +49,8 @@ extern "C" {
 #endif
 
 /* The version of this header: as text, and as a number, its parts times 10,000, 100 and 1. */
-#define TEALSETTLE_VERSION "0.15.0"
-#define TEALSETTLE_VERSION_NUMBER 1500u
+#define TEALSETTLE_VERSION "0.16.0"
+#define TEALSETTLE_VERSION_NUMBER 1600u
 
 /* An answer that nobody looks at is a mistake: a refusal would go unnoticed. */
 #if defined(__GNUC__)
@@ -203,7 +203,11 @@ typedef struct {
 TEALSETTLE_MUST_USE
 TealsettleRead tealsettle_mcs_read(const uint8_t *text, size_t text_length, uint8_t *out, size_t out_length);
 
-/* ---- What loads ---- */
+/* ---- What loads ----
+ *
+ * A write header must name a register that the FPGA's guide lists: 0 to 14, 16, 17, 22, 24 or 31. Any other is a fault at the
+ * header, whatever its count: a chip is stuck there, and an image refused with 5. Bitstreams that Vivado writes for 7 Series
+ * write register 19, and are refused for it: README.md. */
 
 /* What a chip loads. */
 typedef struct {
@@ -232,7 +236,7 @@ typedef struct {
     uint32_t number;          /* 0, or 1 */
     size_t place;             /* 0 */
     uint32_t found;           /* 1; or 0: there is no such write, and the fields below are 0 */
-    uint32_t register_number; /* of the register written: 0 to 31 */
+    uint32_t register_number; /* of the register written: one of those above */
     uint32_t word;            /* the word written */
     size_t word_place;        /* where on the chip the word stands */
 } TealsettleWrite;
@@ -297,7 +301,7 @@ typedef struct {
     uint32_t number;          /* 0, or 1 (the kind) */
     size_t place;             /* 0 */
     uint32_t found;           /* 1; or 0: no write is left, and the fields below are 0, the cursor's too */
-    uint32_t register_number; /* of the register written: 0 to 31 */
+    uint32_t register_number; /* of the register written: one of those above */
     uint32_t word;            /* the word written */
     size_t word_place;        /* where in the bytes the word stands */
     TealsettleCursor cursor;  /* after this write */

@@ -28,7 +28,8 @@ const Command report_command = {
             "The first line is `LOADED golden` or `LOADED update`. Each WRITE has the register, the word and its place;\n"
             "END has the place after the last word. Those are hexadecimal; the number of writes after them is decimal. A\n"
             "chip that loads nothing has one line, `STUCK` and the place of the faulty word, or the chip's length where\n"
-            "the bytes ran out. Any other report without its END line was cut.\n"
+            "the bytes ran out. Any other report without its END line was cut. A faulty word that names a register which\n"
+            "the FPGA guide does not list is told on standard error.\n"
             "\n"
             "Exit status: 0 the chip loads an image; 1 it is stuck, or is no chip; 2 wrong use, or trouble with a file.\n",
     .options = "",
