@@ -86,12 +86,9 @@ fn skip_words(s: &[u8], w: Scanner, register: u32, count: usize, room: usize) ->
 // The scanner after a type 1 header with no data words, and after the type 2 packet that it opens `register`
 // to, where one follows that can be passed at once.
 fn skip_opening(s: &[u8], w: Scanner, register: u32) -> Scanner
-    requires { ⌜ AtHeader w × (w .at + 8 ≤ length (now s)) × (register < 32) × (registerOk register ≡ true → headOf (wordAt (now s) (w .at)) ≡ Type1 register 0) ⌝ }
+    requires { ⌜ AtHeader w × (w .at + 8 ≤ length (now s)) × (register < 32) × (headOf (wordAt (now s) (w .at)) ≡ Type1 register 0) ⌝ }
     ensures { λ r. ⌜ SkipKeeps (now (s .entry)) w r ⌝ }
 {
-    if !register_ok(register) {
-        return w;
-    }
     let opened = after_header(w, register, 0, true);
     let word = word_at(s, opened.at);
     if !is_type2_write(word) {
@@ -137,11 +134,11 @@ fn skip_packet(s: &[u8], w: Scanner, word: u32) -> Scanner
     if count == 1 {
         return skip_one(s, w, register);
     }
-    if count == 0 {
-        return skip_opening(s, w, register);
-    }
     if !register_ok(register) {
         return w;
+    }
+    if count == 0 {
+        return skip_opening(s, w, register);
     }
     let room = min(w.skip, words_from(s, w.at + 4));
     if count == 2 {

@@ -12,38 +12,31 @@ use Rattle.fastpath.proofs.skip_opening.Statement.{statement}
 use Rattle.fastpath.proofs.skip_opening.Tie as tie
 
 -- what the type 1 header leaves
-opened : (c : tie.After-after-header) → SkipKeeps (c .before .before .before .before .args .s .now) (c .before .before .before .before .args .w) (c .after-header .result)
+opened : (c : tie.After-after-header) → SkipKeeps (c .before .before .args .s .now) (c .before .before .args .w) (c .after-header .result)
 opened c =
-    let p = c .before .before .before .before .pre in
-    let head = p .3 (sym (c .before .before .register-ok .ensures) ∙ not-false _ (c .before .if1 .left)) in
-    rw (c .after-header .ensures) (past-empty _ _ _ (p .0) (omega (arith, p .1)) head)
+    let p = c .before .before .pre in
+    rw (c .after-header .ensures) (past-empty _ _ _ (p .0) (omega (arith, p .1)) (p .3))
 
-place : (c : tie.After-after-header) → c .after-header .result .at ≡ c .before .before .before .before .args .w .at + 4
+place : (c : tie.After-after-header) → c .after-header .result .at ≡ c .before .before .args .w .at + 4
 place c = ap (λ (w : Scanner). w .at) (c .after-header .ensures)
-
-register-ok-requires : tie.Need-register-ok-requires
-register-ok-requires c κs = search needs
-
-returns : tie.Need-returns
-returns c = search needs
 
 after-header-requires : tie.Need-after-header-requires
 after-header-requires c κs = search needs
 
 word-at-requires : tie.Need-word-at-requires
-word-at-requires c κs = omega (arith, place c, c .before .before .before .before .pre .1)
+word-at-requires c κs = omega (arith, place c, c .before .before .pre .1)
 
 is-type2-write-requires : tie.Need-is-type2-write-requires
 is-type2-write-requires c κs = search needs
 
-returns-2 : tie.Need-returns-2
-returns-2 c = opened (c .before .before .before)
+returns : tie.Need-returns
+returns c = opened (c .before .before .before)
 
 cast-count : tie.Need-cast-count
 cast-count c = search needs
 
 add-words-from : tie.Need-add-words-from
-add-words-from c = omega (arith, place (c .before .before .before .before), c .before .before .before .before .before .before .before .before .pre .1, c .before .before .before .before .before .before .before .before .good)
+add-words-from c = omega (arith, place (c .before .before .before .before), c .before .before .before .before .before .before .pre .1, c .before .before .before .before .before .before .good)
 
 words-from-requires : tie.Need-words-from-requires
 words-from-requires c κs = search needs
@@ -55,33 +48,31 @@ skip-words-requires : tie.Need-skip-words-requires
 skip-words-requires c κs =
     let after = c .before .before .before .before .before .before .after-header .ensures in (
       opened (c .before .before .before .before .before .before) .ready,
-      omega (arith, place (c .before .before .before .before .before .before), c .before .before .before .before .before .before .before .before .before .before .pre .1),
-      c .before .before .before .before .before .before .before .before .before .before .pre .2,
+      omega (arith, place (c .before .before .before .before .before .before), c .before .before .before .before .before .before .before .before .pre .1),
+      c .before .before .before .before .before .before .before .before .pre .2,
       λ h.
-          begins-type2 (c .before .before .before .before .before .before .before .before .before .before .args .s .now) (c .before .before .before .before .before .before .after-header .result) _ _
-          (ap headOf (sym (c .before .before .before .before .before .word-at .ensures)) ∙ c .before .before .before .before .is-type2-write .ensures (not-false _ (c .before .before .before .if2 .left)))
+          begins-type2 (c .before .before .before .before .before .before .before .before .args .s .now) (c .before .before .before .before .before .before .after-header .result) _ _
+          (ap headOf (sym (c .before .before .before .before .before .word-at .ensures)) ∙ c .before .before .before .before .is-type2-write .ensures (not-false _ (c .before .before .before .if1 .left)))
           (ap (λ (w : Scanner). w .opened) after)
           (ap (λ (w : Scanner). w .register) after),
       omega (arith, c .min .ensures),
       λ h. omega (arith, h, c .min .ensures, c .before .words-from .ensures),
     )
 
-returns-3 : tie.Need-returns-3
-returns-3 c = past-on _ _ _ _ (opened (c .before .before .before .before .before .before .before)) (c .skip-words .ensures)
+returns-2 : tie.Need-returns-2
+returns-2 c = past-on _ _ _ _ (opened (c .before .before .before .before .before .before .before)) (c .skip-words .ensures)
 
 pub skip-opening-spec : {M : Type 1} → statement M
 skip-opening-spec =
     tie.close
     (tie.spec
-    register-ok-requires
-    returns
     after-header-requires
     word-at-requires
     is-type2-write-requires
-    returns-2
+    returns
     cast-count
     add-words-from
     words-from-requires
     min-requires
     skip-words-requires
-    returns-3)
+    returns-2)

@@ -22,12 +22,12 @@ head-is c count e ok =
     ∙ ap (λ (n : ℕ). Type1 (c .before .before .before .before .args .word / 8192 % 32) n) e
 
 -- it may be named
-may : (c : tie.Else5) → registerOk (c .before .before .before .before .before .before .before .before .args .word / 8192 % 32) ≡ true
-may c = sym (c .before .register-ok .ensures) ∙ not-false _ (c .if5 .left)
+may : (c : tie.Else4) → registerOk (c .before .before .before .before .before .before .before .args .word / 8192 % 32) ≡ true
+may c = sym (c .before .register-ok .ensures) ∙ not-false _ (c .if4 .left)
 
-begins : (c : tie.Else5) (count : ℕ) → c .before .before .before .before .before .before .before .before .args .word % 2048 ≡ count → 1 ≤ count →
-    PacketBegins (c .before .before .before .before .before .before .before .before .args .s .now) (c .before .before .before .before .before .before .before .before .args .w) (c .before .before .before .before .before .before .before .before .args .word / 8192 % 32) count
-begins c count e = begins-type1 (c .before .before .before .before .before .before .before .before .args .s .now) (c .before .before .before .before .before .before .before .before .args .w) (c .before .before .before .before .before .before .before .before .args .word / 8192 % 32) count (head-is (c .before .before .before .before) count e (may c))
+begins : (c : tie.Else4) (count : ℕ) → c .before .before .before .before .before .before .before .args .word % 2048 ≡ count → 1 ≤ count →
+    PacketBegins (c .before .before .before .before .before .before .before .args .s .now) (c .before .before .before .before .before .before .before .args .w) (c .before .before .before .before .before .before .before .args .word / 8192 % 32) count
+begins c count e = begins-type1 (c .before .before .before .before .before .before .before .args .s .now) (c .before .before .before .before .before .before .before .args .w) (c .before .before .before .before .before .before .before .args .word / 8192 % 32) count (head-is (c .before .before .before) count e (may c))
 
 after-header-requires : tie.Need-after-header-requires
 after-header-requires c κs = search needs
@@ -49,17 +49,17 @@ skip-one-requires c κs = let p = c .before .before .before .before .before .pre
 returns-3 : tie.Need-returns-3
 returns-3 c = search needs
 
-skip-opening-requires : tie.Need-skip-opening-requires
-skip-opening-requires c κs = let p = c .before .before .before .before .before .before .pre in (p .0, p .1, omega arith, head-is (c .before .before) 0 (c .if4 .taken))
-
-returns-4 : tie.Need-returns-4
-returns-4 c = search needs
-
 register-ok-requires : tie.Need-register-ok-requires
 register-ok-requires c κs = search needs
 
+returns-4 : tie.Need-returns-4
+returns-4 c = past-none _ _ (c .before .before .before .before .before .before .before .pre .0)
+
+skip-opening-requires : tie.Need-skip-opening-requires
+skip-opening-requires c κs = let p = c .before .before .before .before .before .before .before .before .pre in (p .0, p .1, omega arith, head-is (c .before .before .before .before) 0 (c .if5 .taken) (may (c .before)))
+
 returns-5 : tie.Need-returns-5
-returns-5 c = past-none _ _ (c .before .before .before .before .before .before .before .before .pre .0)
+returns-5 c = search needs
 
 add-words-from : tie.Need-add-words-from
 add-words-from c = search needs
@@ -76,7 +76,7 @@ skip-words-requires c κs =
       p .0,
       omega (arith, p .1),
       omega arith,
-      begins (c .before .before .before .before) 2 (c .if6 .taken),
+      begins (c .before .before .before .before .before) 2 (c .if6 .taken),
       omega (arith, c .before .min .ensures),
       λ h. omega (arith, h, c .before .min .ensures, c .before .before .words-from .ensures),
     )
@@ -93,7 +93,7 @@ skip-words-requires-2 c κs =
       p .0,
       omega (arith, p .1),
       omega arith,
-      begins (c .before .before .before .before) (c .before .before .before .before .before .before .before .before .before .before .before .before .args .word % 2048) refl,
+      begins (c .before .before .before .before .before) (c .before .before .before .before .before .before .before .before .before .before .before .before .args .word % 2048) refl,
       omega (arith, c .before .min .ensures),
       λ h. omega (arith, h, c .before .min .ensures, c .before .before .words-from .ensures),
     )
@@ -111,9 +111,9 @@ skip-packet-spec =
     returns-2
     skip-one-requires
     returns-3
-    skip-opening-requires
-    returns-4
     register-ok-requires
+    returns-4
+    skip-opening-requires
     returns-5
     add-words-from
     words-from-requires
