@@ -12,7 +12,7 @@ use Rattle.base.specs.Question.{ask}
 use Rattle.base.proofs.Laws.{both-true}
 use Rattle.framing.specs.Words.{words, wordAt}
 use Rattle.framing.proofs.Laws.{room}
-use Rattle.packets.specs.Header.{CMD, WBSTAR, registerOk, headOf, effectOf, type1Of}
+use Rattle.packets.specs.Header.{CMD, WBSTAR, registerOk, plainRegister, headOf, effectOf, type1Of}
 use Rattle.packets.specs.Trace.{opened, modeOf, afterHeader}
 use Rattle.fastpath.specs.Types.{Type1, Type2, GoesOn, Scanner}
 use Rattle.scanner.specs.Scan.{beforeOf, scannerAfterHeader, scannerAfterPacket, AtHeader}
@@ -79,8 +79,9 @@ past-counted s w count ready h p some-data skip enough =
     (past-whole s w (p .register) count ready h (p .begins) some-data skip enough (λ i less. counted-only (p .register) _ (p .no-command)))
 
 -- what a yes to "is it a plain register" says
-pub plain-begins : (s : List ℕ) (w : Scanner) (register count : ℕ) → (registerOk register && not (eqb register CMD) && not (eqb register WBSTAR)) ≡ true →
+pub plain-begins : (s : List ℕ) (w : Scanner) (register count : ℕ) → plainRegister register ≡ true →
     (registerOk register ≡ true → PacketBegins s w register count) → CountedBegins s w count
+unfolding plainRegister
 plain-begins s w register count plain begins =
     let (may, no-place) = both-true (registerOk register && not (eqb register CMD)) _ plain in
     let (ok, no-command) = both-true (registerOk register) _ may in

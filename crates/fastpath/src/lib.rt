@@ -72,7 +72,7 @@ fn skip_counted(s: &[u8], w: Scanner, count: usize, room: usize) -> Scanner
     after_packet(s, after_header(w, 0, count, true))
 }
 
-// The one or the other, by the register, which may be named.
+// `skip_counted` or `skip_data`, by the register: the caller has asked that it may be named.
 fn skip_words(s: &[u8], w: Scanner, register: u32, count: usize, room: usize) -> Scanner
     requires { ⌜ AtHeader w × (w .at + 4 ≤ length (now s)) × (register < 32) × (1 ≤ count → PacketBegins (now s) w register count) × (room ≤ w .skip) × (count ≤ room → count ≤ length (words (drop (w .at + 4) (now s)))) ⌝ }
     ensures { λ r. ⌜ SkipKeeps (now (s .entry)) w r ⌝ }
@@ -99,8 +99,9 @@ fn skip_opening(s: &[u8], w: Scanner, register: u32) -> Scanner
     skip_words(s, opened, register, count, room)
 }
 
-// The scanner after a packet of one data word; or as it was. That its register may be named and that the word is only counted
-// is one test: so such packets cost no more tests than if every register might be named.
+// The scanner after a packet of one data word; or as it was. CMD is asked first, so that its packets wait for no other test;
+// of every other register one test says both that it may be named and that its word is only counted. So the commonest packets
+// cost no more tests than if every register might be named.
 fn skip_one(s: &[u8], w: Scanner, register: u32) -> Scanner
     requires { ⌜ AtHeader w × (w .at + 8 ≤ length (now s)) × (register < 32) × (registerOk register ≡ true → headOf (wordAt (now s) (w .at)) ≡ Type1 register 1) ⌝ }
     ensures { λ r. ⌜ SkipKeeps (now (s .entry)) w r ⌝ }

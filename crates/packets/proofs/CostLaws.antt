@@ -9,7 +9,7 @@ use lib.Dec.{eqb}
 use lib.ListN.{length}
 use Rattle.base.specs.Question.{ask}
 use Rattle.base.proofs.Laws.{either-way}
-use Rattle.packets.specs.Header.{field, registerOk, type1Of, type2Of, headOf, effectOf}
+use Rattle.packets.specs.Header.{field, type1Of, type2Of, headOf, effectOf}
 use Rattle.packets.specs.Theorems.{HeadersCost}
 use Rattle.packets.specs.Trace.{Before, opened, other, Mode, header, payload, modeOf, afterHeader, trace, listOf}
 use Rattle.packets.specs.Types.{Header, Nop, Type1, Type2, BadHeader, Effect, GoesOn, Desync, EffectIprog}
@@ -67,11 +67,11 @@ unless-bad b rest h = either-way CountFits b BadHeader rest tt h
 
 type1-count : (word : ℕ) → CountFits (type1Of word)
 unfolding CountFits type1Of
-type1-count word = unless-bad _ _ (unless-bad _ _ (go (eqb (field word 27 2) 2)))
+type1-count word = unless-bad _ _ (unless-bad _ _ (go _ (eqb (field word 27 2) 2)))
   where
-    go : (b : Bool) → CountFits (elim b [ true ↦ ask (registerOk (field word 13 5)) BadHeader (Type1 (field word 13 5) (word % 2 ^ 11)) | false ↦ ask (eqb (field word 27 2) 0) BadHeader (ask (eqb (field word 13 5) 0) BadHeader (ask (eqb (word % 2 ^ 11) 0) BadHeader Nop)) ])
-    go true = unless-bad _ _ (omega arith)
-    go false = unless-bad _ _ (unless-bad _ _ (unless-bad _ _ tt))
+    go : (may b : Bool) → CountFits (elim b [ true ↦ ask may BadHeader (Type1 (field word 13 5) (word % 2 ^ 11)) | false ↦ ask (eqb (field word 27 2) 0) BadHeader (ask (eqb (field word 13 5) 0) BadHeader (ask (eqb (word % 2 ^ 11) 0) BadHeader Nop)) ])
+    go may true = unless-bad _ _ (omega arith)
+    go may false = unless-bad _ _ (unless-bad _ _ (unless-bad _ _ tt))
 
 head-count : (word : ℕ) → CountFits (headOf word)
 unfolding CountFits headOf type2Of

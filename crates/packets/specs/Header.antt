@@ -1,6 +1,6 @@
 -- One word as a packet header, and what a data word does. Document 01, "How the configuration reader reads".
 use Prim.Native.Nat.{ℕ, _/_, _%_, _^_}
-use mathlib.Core.Bool.{Bool, true, false, _||_}
+use mathlib.Core.Bool.{Bool, true, false, not, _&&_, _||_}
 use lib.Dec.{eqb, ltb}
 use Rattle.base.specs.Question.{ask}
 use Rattle.packets.specs.Types.{Header, Nop, Type1, Type2, BadHeader, Effect, GoesOn, Desync, EffectIprog}
@@ -56,3 +56,7 @@ unfoldable pub effectOf : ℕ → ℕ → Effect
 effectOf register word =
     ask (eqb register CMD) GoesOn
     (elim (eqb word DESYNC) [ true ↦ Desync | false ↦ ask (eqb word IPROG) GoesOn EffectIprog ])
+
+-- A register whose words are only counted: no commands, and no place to jump to. No rule cites it: the code passes packets of such a register at once.
+unfoldable pub plainRegister : ℕ → Bool
+plainRegister register = registerOk register && not (eqb register CMD) && not (eqb register WBSTAR)

@@ -1,10 +1,9 @@
 // One word as a packet header, and what one data word does to the reading.
 ghost use mathlib.Core.Path.{_≡_};
-ghost use mathlib.Core.Bool.{true, not, _&&_};
-ghost use lib.Dec.{eqb};
+ghost use mathlib.Core.Bool.{true};
 ghost use Prim.Native.Nat.{_/_, _%_, _<_};
 ghost use Rattle.packets.specs.Types.{Type1, Type2};
-ghost use Rattle.packets.specs.Header.{registerOk, type1Of, type2Of, headOf, effectOf};
+ghost use Rattle.packets.specs.Header.{registerOk, plainRegister, type1Of, type2Of, headOf, effectOf};
 
 pub const CMD: u32 = 4;
 
@@ -38,8 +37,8 @@ const REGISTERS: u32 = 0x7FFF + (1 << 16) + (1 << 17) + (1 << 22) + (1 << 24) + 
 // Those of them whose words are only counted.
 const PLAIN: u32 = REGISTERS - (1 << CMD) - (1 << WBSTAR);
 
-// May a write header name this register? By its bit: tests of its number one after another are a branch each, and headers
-// that come in no order of their registers are then guessed wrong.
+// May a write header name this register? By its bit: tests of its number, one after another, would be a branch each, which a
+// processor guesses wrong where registers come in no order.
 pub fn register_ok(register: u32) -> bool
     requires { ⌜ register < 32 ⌝ }
     ensures { λ r. ⌜ r ≡ registerOk register ⌝ }
@@ -47,10 +46,11 @@ pub fn register_ok(register: u32) -> bool
     (REGISTERS >> register) % 2 == 1
 }
 
-// May a write header name this register, and are its words only counted? One test for the three.
+// May a write header name this register, and are its words only counted? One test in place of three: it may be named, it is
+// not CMD, it is not WBSTAR.
 pub fn is_plain_register(register: u32) -> bool
     requires { ⌜ register < 32 ⌝ }
-    ensures { λ r. ⌜ r ≡ (registerOk register && not (eqb register 4) && not (eqb register 16)) ⌝ }
+    ensures { λ r. ⌜ r ≡ plainRegister register ⌝ }
 {
     (PLAIN >> register) % 2 == 1
 }
