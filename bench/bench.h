@@ -59,7 +59,7 @@ void store(const char *path, const uint8_t *bytes, size_t length);
 /* An image or a chip of `length` bytes that loads: one type 2 packet of random words, then DESYNC. */
 void make_long_packet(uint8_t *bytes, size_t length);
 
-/* Chips of 16 MiB. The packets are of any register but CMD, where nothing else is said. */
+/* Chips of 16 MiB. The packets are of any register that may be written, but CMD, where nothing else is said. */
 void make_long(uint8_t *chip);     /* one type 2 packet */
 void make_ones(uint8_t *chip);     /* packets of one word */
 void make_twos(uint8_t *chip);     /* of two */
@@ -67,7 +67,7 @@ void make_threes(uint8_t *chip);   /* of three */
 void make_type2s(uint8_t *chip);   /* type 2 packets of one word */
 void make_nops(uint8_t *chip);     /* no-operations */
 void make_commands(uint8_t *chip); /* packets of one word of CMD */
-void make_mixed(uint8_t *chip);    /* packets of 0 to 8 words of any register, and no-operations */
+void make_mixed(uint8_t *chip);    /* packets of 0 to 8 words, of CMD too, and no-operations */
 void make_heaviest(uint8_t *chip); /* one packet of CMD, with as many words as there can be */
 void make_erased(uint8_t *chip);   /* FF */
 void make_noise(uint8_t *chip);    /* random bytes, no sync word */

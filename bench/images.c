@@ -1,4 +1,5 @@
-/* The image check, beside the reference: on made images, and on bitstreams that Vivado wrote, as BIT files, but for one packet. */
+/* The image check, beside the reference: on made images, and on bitstreams that Vivado wrote, as BIT files, with their write to
+ * register 19 made no-operations. */
 #include "bench.h"
 
 #include <stdio.h>
@@ -45,7 +46,7 @@ static void image_row(const char *name, const uint8_t *image, size_t length)
         printf("%s: the image is refused, %u at %zu\n", name, ours.boot.number, ours.boot.place), exit(1);
 }
 
-/* Vivado writes 0 to register 19, and is refused there (docs/DECISIONS.md, 6). With two no-operations in place of that packet the
+/* Vivado writes 0 to register 19, and is refused there (docs/DECISIONS.md, 181). With two no-operations in place of that packet the
  * rest is timed. */
 static void pass_register_19(uint8_t *image, size_t length)
 {

@@ -48,7 +48,7 @@ static void put_random(Stream *s, size_t count)
         put_word(s, (uint32_t)next_random());
 }
 
-/* A packet of random words, of any register but CMD. */
+/* A packet of random words, of a register other than CMD. */
 static void put_packet(Stream *s, uint32_t reg, size_t count)
 {
     put_word(s, WRITE(reg, count));

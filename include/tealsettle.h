@@ -236,7 +236,7 @@ typedef struct {
     uint32_t number;          /* 0, or 1 */
     size_t place;             /* 0 */
     uint32_t found;           /* 1; or 0: there is no such write, and the fields below are 0 */
-    uint32_t register_number; /* of the register written: one of those above */
+    uint32_t register_number; /* of the register written: 0 to 14, 16, 17, 22, 24 or 31 */
     uint32_t word;            /* the word written */
     size_t word_place;        /* where on the chip the word stands */
 } TealsettleWrite;
@@ -301,7 +301,7 @@ typedef struct {
     uint32_t number;          /* 0, or 1 (the kind) */
     size_t place;             /* 0 */
     uint32_t found;           /* 1; or 0: no write is left, and the fields below are 0, the cursor's too */
-    uint32_t register_number; /* of the register written: one of those above */
+    uint32_t register_number; /* of the register written; for a cursor that was opened here one of the same */
     uint32_t word;            /* the word written */
     size_t word_place;        /* where in the bytes the word stands */
     TealsettleCursor cursor;  /* after this write */

@@ -39,8 +39,9 @@ const Command check_command = {
             "\n"
             "The last line has the place of the sync word, the place after the last word, and the number of writes.\n"
             "\n"
-            "An image that writes a register which the FPGA guide does not list is refused at that header. The register is\n"
-            "named; and if the image would load with such registers admitted, that is said too, and which they are.\n"
+            "A write header that names a register which the FPGA guide does not list (it lists 0 to 14, 16, 17, 22, 24 and\n"
+            "31) is refused. The register is named; and if the image would load with such registers admitted, that is said\n"
+            "too, and which they are.\n"
             "\n"
             "Exit status: 0 the image is accepted; 1 it is refused; 2 wrong use, or trouble with a file.\n",
     .options = "w",

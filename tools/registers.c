@@ -30,13 +30,13 @@ static TealsettleImage read_from(uint8_t *header, size_t length)
     return tealsettle_image_check(TEALSETTLE_SPI, header - WORD, length + WORD);
 }
 
-/* The registers that may not be written and stand in the way: as a bit each, and whether there is nothing else. */
+/* The registers that may not be written and stand in the way, a bit each; and whether there is nothing else in it. */
 typedef struct {
     uint32_t registers;
     bool loads;
 } Unlisted;
 
-/* From one refused header to the next, as long as its register is all that is wrong with it: no word is read twice. */
+/* From one refused header to the next, as long as its register is all that is wrong with it: only these headers are read twice. */
 static Unlisted find_unlisted(uint8_t *bytes, size_t length, size_t at)
 {
     Unlisted found = {0, false};
@@ -63,20 +63,32 @@ static Unlisted unlisted_from(const File *file, size_t place)
     return found;
 }
 
+/* A set of registers in words: "register 19", "registers 15, 18 and 30". Returns where they end. */
+static char *put_registers(char *at, uint32_t registers)
+{
+    const char *before = registers & (registers - 1) ? "registers " : "register ";
+    for (unsigned number = 0; registers != 0; number++) {
+        if ((registers >> number & 1) == 0)
+            continue;
+        at += sprintf(at, "%s%u", before, number);
+        registers &= ~(UINT32_C(1) << number);
+        before = registers & (registers - 1) ? ", " : " and ";
+    }
+    return at;
+}
+
 const char *register_words(const File *file, size_t place)
 {
-    static char words[256]; /* room for all 32 numbers */
+    static char words[320]; /* room for all 32 numbers */
     Unlisted found = unlisted_from(file, place);
     if (found.registers == 0)
         return NULL;
     char *at = words + sprintf(words, "the header there names register %u, which the FPGA guide does not list",
                                header_register(file->bytes + place));
-    if (!found.loads)
-        return words;
-    at += sprintf(at, "; with register%s", found.registers & (found.registers - 1) ? "s" : "");
-    for (unsigned number = 0; number < 32; number++)
-        if (found.registers >> number & 1)
-            at += sprintf(at, " %u", number);
-    strcpy(at, " admitted it would load");
+    if (found.loads) {
+        at += sprintf(at, "; nothing else is wrong: with ");
+        at = put_registers(at, found.registers);
+        strcpy(at, " admitted it would load");
+    }
     return words;
 }

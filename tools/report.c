@@ -28,8 +28,8 @@ const Command report_command = {
             "The first line is `LOADED golden` or `LOADED update`. Each WRITE has the register, the word and its place;\n"
             "END has the place after the last word. Those are hexadecimal; the number of writes after them is decimal. A\n"
             "chip that loads nothing has one line, `STUCK` and the place of the faulty word, or the chip's length where\n"
-            "the bytes ran out. Any other report without its END line was cut. A faulty word that names a register which\n"
-            "the FPGA guide does not list is told on standard error.\n"
+            "the bytes ran out. Any other report without its END line was cut. Where the faulty word is a header that names\n"
+            "a register which the FPGA guide does not list, standard error has the register, and the place in decimal.\n"
             "\n"
             "Exit status: 0 the chip loads an image; 1 it is stuck, or is no chip; 2 wrong use, or trouble with a file.\n",
     .options = "",

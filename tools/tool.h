@@ -137,7 +137,7 @@ int refused_image(const File *image, uint32_t number, size_t place);
 /* ---- registers.c: registers that may not be written ---- */
 
 /* Why an image has a fault at this place, or a chip is stuck there, if that is for the register that a write header names there: in
- * words, which also say if it would load with such registers admitted. Else null. */
+ * words, which also say if it would load with such registers admitted (of a chip only where no jump lies ahead). Else null. */
 const char *register_words(const File *file, size_t place);
 
 /* ---- chips.c: a chip's layout, and what it loads ---- */
