@@ -69,7 +69,8 @@ const Command update_command = {
             "  -A N  how long the update area is, all of which is erased; without it, up to the chip's end\n"
             "\n"
             "Numbers are decimal, or hexadecimal after 0x. The command can be killed at any moment: a chip that was built\n"
-            "by `tealsettle build` then loads its golden image or the update that was switched on last, whole. Run it again.\n"
+            "by `tealsettle build`, with a golden image that `tealsettle check` accepts, then loads that or the update that\n"
+            "was switched on last, whole. Run it again.\n"
             "\n"
             "Exit status: 0 done, and the chip loads the image; 1 a refusal, which leaves the chip as it was, or a stop;\n"
             "2 wrong use, or trouble with a file.\n",
