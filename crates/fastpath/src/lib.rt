@@ -8,7 +8,7 @@ ghost use Rattle.framing.specs.Words.{words, wordAt};
 ghost use Rattle.packets.specs.Header.{registerOk, headOf, effectOf};
 ghost use Rattle.fastpath.specs.Types.{GoesOn, Type1};
 ghost use Rattle.scanner.specs.Scan.{AtHeader};
-ghost use Rattle.fastpath.specs.Fastpath.{PacketBegins, CountedBegins, SkipKeeps};
+ghost use Rattle.fastpath.specs.Fastpath.{NOP, PacketBegins, CountedBegins, SkipKeeps};
 use base::min;
 use framing::words::word_at;
 use framing::words::words_from;
@@ -26,6 +26,9 @@ use scanner::scan::count_plain_words;
 // Up to so many words of CMD are looked at here. A longer packet of it is left to the steps: where a word of it ends the
 // reading, those before it would be looked at twice.
 const FEW: usize = 16;
+
+// The header of a type 2 packet of one data word.
+const TYPE2_OF_ONE: u32 = 0x5000_0001;
 
 // Whether all of a packet's data words can be passed at once: there are some, no more than `room`, and
 // none of them ends the reading. A yes is sure; after a no the steps decide.
@@ -84,7 +87,8 @@ fn skip_words(s: &[u8], w: Scanner, register: u32, count: usize, room: usize) ->
 }
 
 // The scanner after a type 1 header with no data words, and after the type 2 packet that it opens `register`
-// to, where one follows that can be passed at once.
+// to, where one follows that can be passed at once. A packet of one data word is told apart, so that there the next place does
+// not wait for the count.
 fn skip_opening(s: &[u8], w: Scanner, register: u32) -> Scanner
     requires { ⌜ AtHeader w × (w .at + 8 ≤ length (now s)) × (register < 32) × (headOf (wordAt (now s) (w .at)) ≡ Type1 register 0) ⌝ }
     ensures { λ r. ⌜ SkipKeeps (now (s .entry)) w r ⌝ }
@@ -94,8 +98,11 @@ fn skip_opening(s: &[u8], w: Scanner, register: u32) -> Scanner
     if !is_type2_write(word) {
         return opened;
     }
-    let count = (word % 0x0800_0000) as usize;
     let room = min(opened.skip, words_from(s, opened.at + 4));
+    if word == TYPE2_OF_ONE {
+        return skip_words(s, opened, register, 1, room);
+    }
+    let count = (word % 0x0800_0000) as usize;
     skip_words(s, opened, register, count, room)
 }
 
@@ -118,14 +125,38 @@ fn skip_one(s: &[u8], w: Scanner, register: u32) -> Scanner
     skip_data(s, w, register, 1, w.skip)
 }
 
-// The scanner after the packet whose header is `word`, the word at its place; or as it was. Packets of one
+fn is_nop_at(s: &[u8], at: usize) -> bool
+    requires { ⌜ at ≤ length (now s) ⌝ }
+    ensures { λ r. ⌜ (r ≡ true → (at + 4 ≤ length (now (s .entry))) × (wordAt (now (s .entry)) at ≡ NOP)) ⌝ }
+{
+    if s.len() - at < 4 {
+        return false;
+    }
+    word_at(s, at) == NOP
+}
+
+// The scanner after the no-operation at its place and those that follow. They come in rows, and a loop of their own asks
+// nothing else.
+fn skip_nops(s: &[u8], start: Scanner) -> Scanner
+    requires { ⌜ AtHeader start × (start .at + 4 ≤ length (now s)) × (wordAt (now s) (start .at) ≡ NOP) ⌝ }
+    ensures { λ r. ⌜ SkipKeeps (now (s .entry)) start r ⌝ }
+{
+    let mut w = after_header(start, 0, 0, false);
+    while is_nop_at(s, w.at) {
+        w = after_header(w, 0, 0, false);
+    }
+    w
+}
+
+// The scanner after the packet whose header is `word`, the word at its place, or after a row of no-operations; or as it
+// was. Packets of one
 // and of two data words are told apart, so that there the next place does not wait for the count.
 fn skip_packet(s: &[u8], w: Scanner, word: u32) -> Scanner
     requires { ⌜ AtHeader w × (w .at + 8 ≤ length (now s)) × (word ≡ wordAt (now s) (w .at)) ⌝ }
     ensures { λ r. ⌜ SkipKeeps (now (s .entry)) w r ⌝ }
 {
     if word == NOP {
-        return after_header(w, 0, 0, false);
+        return skip_nops(s, w);
     }
     if !is_type1_form(word) {
         return w;

@@ -142,10 +142,15 @@ pub fn is_type2_write(word: u32) -> bool
     word < 0x5800_0000
 }
 
+// Most commands are below the two that end the reading: one comparison of the whole word passes them, and keeps it loaded at
+// once, where the two values alone would be compared byte by byte.
 pub fn effect_of(register: u32, word: u32) -> Effect
     ensures { λ r. ⌜ r ≡ effectOf register word ⌝ }
 {
     if register != CMD {
+        return Effect::GoesOn;
+    }
+    if word < DESYNC {
         return Effect::GoesOn;
     }
     if word == DESYNC {

@@ -1,11 +1,11 @@
 -- `skip_opening` meets its contract: the type 1 header is passed, and then the packet that follows.
-use Prim.Native.Nat.{_+_}
-use mathlib.Core.Path.{_≡_, sym, ap, _∙_}
+use Prim.Native.Nat.{ℕ, _+_, _%_}
+use mathlib.Core.Path.{_≡_, refl, sym, ap, _∙_}
 use native.Mathlib.Omega.{arith}
 use borrow.Author.Tests.{not-false}
 use Rattle.packets.specs.Header.{headOf}
-use Rattle.fastpath.specs.Fastpath.{SkipKeeps}
-use Rattle.fastpath.specs.Types.{Scanner}
+use Rattle.fastpath.specs.Fastpath.{PacketBegins, SkipKeeps}
+use Rattle.fastpath.specs.Types.{Type2, Scanner}
 use Rattle.fastpath.proofs.SkipLaws.{past-on, past-empty, begins-type2}
 use borrow.Author.Needs.{needs}
 use Rattle.fastpath.proofs.skip_opening.Statement.{statement}
@@ -20,6 +20,15 @@ opened c =
 place : (c : tie.After-after-header) → c .after-header .result .at ≡ c .before .before .args .w .at + 4
 place c = ap (λ (w : Scanner). w .at) (c .after-header .ensures)
 
+-- the type 2 header begins a packet of so many data words
+begins : (c : tie.After-min) (count : ℕ) → c .before .before .before .before .before .word-at .result % 134217728 ≡ count → PacketBegins (c .before .before .before .before .before .before .before .before .args .s .now) (c .before .before .before .before .before .before .after-header .result) (c .before .before .before .before .before .before .before .before .args .register) count
+begins c count e =
+    let after = c .before .before .before .before .before .before .after-header .ensures in
+    begins-type2 (c .before .before .before .before .before .before .before .before .args .s .now) (c .before .before .before .before .before .before .after-header .result) _ _
+    (ap headOf (sym (c .before .before .before .before .before .word-at .ensures)) ∙ c .before .before .before .before .is-type2-write .ensures (not-false _ (c .before .before .before .if1 .left)) ∙ ap Type2 e)
+    (ap (λ (w : Scanner). w .opened) after)
+    (ap (λ (w : Scanner). w .register) after)
+
 after-header-requires : tie.Need-after-header-requires
 after-header-requires c κs = search needs
 
@@ -32,9 +41,6 @@ is-type2-write-requires c κs = search needs
 returns : tie.Need-returns
 returns c = opened (c .before .before .before)
 
-cast-count : tie.Need-cast-count
-cast-count c = search needs
-
 add-words-from : tie.Need-add-words-from
 add-words-from c = omega (arith, place (c .before .before .before .before), c .before .before .before .before .before .before .pre .1, c .before .before .before .before .before .before .good)
 
@@ -46,21 +52,34 @@ min-requires c κs = search needs
 
 skip-words-requires : tie.Need-skip-words-requires
 skip-words-requires c κs =
-    let after = c .before .before .before .before .before .before .after-header .ensures in (
-      opened (c .before .before .before .before .before .before) .ready,
-      omega (arith, place (c .before .before .before .before .before .before), c .before .before .before .before .before .before .before .before .pre .1),
-      c .before .before .before .before .before .before .before .before .pre .2,
-      λ h.
-          begins-type2 (c .before .before .before .before .before .before .before .before .args .s .now) (c .before .before .before .before .before .before .after-header .result) _ _
-          (ap headOf (sym (c .before .before .before .before .before .word-at .ensures)) ∙ c .before .before .before .before .is-type2-write .ensures (not-false _ (c .before .before .before .if1 .left)))
-          (ap (λ (w : Scanner). w .opened) after)
-          (ap (λ (w : Scanner). w .register) after),
-      omega (arith, c .min .ensures),
-      λ h. omega (arith, h, c .min .ensures, c .before .words-from .ensures),
+    let p = c .before .before .before .before .before .before .before .before .before .pre in (
+      opened (c .before .before .before .before .before .before .before) .ready,
+      omega (arith, place (c .before .before .before .before .before .before .before), p .1),
+      p .2,
+      λ h. begins (c .before) 1 (omega (arith, c .if2 .taken)),
+      omega (arith, c .before .min .ensures),
+      λ h. omega (arith, h, c .before .min .ensures, c .before .before .words-from .ensures),
     )
 
 returns-2 : tie.Need-returns-2
-returns-2 c = past-on _ _ _ _ (opened (c .before .before .before .before .before .before .before)) (c .skip-words .ensures)
+returns-2 c = past-on _ _ _ _ (opened (c .before .before .before .before .before .before .before .before)) (c .skip-words .ensures)
+
+cast-count : tie.Need-cast-count
+cast-count c = search needs
+
+skip-words-requires-2 : tie.Need-skip-words-requires-2
+skip-words-requires-2 c κs =
+    let p = c .before .before .before .before .before .before .before .before .before .pre in (
+      opened (c .before .before .before .before .before .before .before) .ready,
+      omega (arith, place (c .before .before .before .before .before .before .before), p .1),
+      p .2,
+      λ h. begins (c .before) _ refl,
+      omega (arith, c .before .min .ensures),
+      λ h. omega (arith, h, c .before .min .ensures, c .before .before .words-from .ensures),
+    )
+
+returns-3 : tie.Need-returns-3
+returns-3 c = past-on _ _ _ _ (opened (c .before .before .before .before .before .before .before .before)) (c .skip-words2 .ensures)
 
 pub skip-opening-spec : {M : Type 1} → statement M
 skip-opening-spec =
@@ -70,9 +89,11 @@ skip-opening-spec =
     word-at-requires
     is-type2-write-requires
     returns
-    cast-count
     add-words-from
     words-from-requires
     min-requires
     skip-words-requires
-    returns-2)
+    returns-2
+    cast-count
+    skip-words-requires-2
+    returns-3)

@@ -8,7 +8,7 @@ use Rattle.framing.specs.Words.{wordAt}
 use Rattle.packets.specs.Header.{registerOk, headOf}
 use Rattle.fastpath.specs.Fastpath.{PacketBegins}
 use Rattle.fastpath.specs.Types.{Type1}
-use Rattle.fastpath.proofs.SkipLaws.{past-none, past-nop, begins-type1}
+use Rattle.fastpath.proofs.SkipLaws.{past-none, begins-type1}
 use borrow.Author.Needs.{needs}
 use Rattle.fastpath.proofs.skip_packet.Statement.{statement}
 use Rattle.fastpath.proofs.skip_packet.Tie as tie
@@ -29,13 +29,11 @@ begins : (c : tie.Else4) (count : ℕ) → c .before .before .before .before .be
     PacketBegins (c .before .before .before .before .before .before .before .args .s .now) (c .before .before .before .before .before .before .before .args .w) (c .before .before .before .before .before .before .before .args .word / 8192 % 32) count
 begins c count e = begins-type1 (c .before .before .before .before .before .before .before .args .s .now) (c .before .before .before .before .before .before .before .args .w) (c .before .before .before .before .before .before .before .args .word / 8192 % 32) count (head-is (c .before .before .before) count e (may c))
 
-after-header-requires : tie.Need-after-header-requires
-after-header-requires c κs = search needs
+skip-nops-requires : tie.Need-skip-nops-requires
+skip-nops-requires c κs = let p = c .before .before .pre in (p .0, omega (arith, p .1), sym (p .2) ∙ c .if1 .taken)
 
 returns : tie.Need-returns
-returns c =
-    let p = c .before .before .before .pre in
-    rw (c .after-header .ensures) (past-nop _ _ (p .0) (omega (arith, p .1)) (sym (p .2) ∙ c .before .if1 .taken))
+returns c = search needs
 
 is-type1-form-requires : tie.Need-is-type1-form-requires
 is-type1-form-requires c κs = search needs
@@ -105,7 +103,7 @@ pub skip-packet-spec : {M : Type 1} → statement M
 skip-packet-spec =
     tie.close
     (tie.spec
-    after-header-requires
+    skip-nops-requires
     returns
     is-type1-form-requires
     returns-2
