@@ -49,8 +49,8 @@ extern "C" {
 #endif
 
 /* The version of this header: as text, and as a number, its parts times 10,000, 100 and 1. */
-#define TEALSETTLE_VERSION "0.16.0"
-#define TEALSETTLE_VERSION_NUMBER 1600u
+#define TEALSETTLE_VERSION "0.16.1"
+#define TEALSETTLE_VERSION_NUMBER 1601u
 
 /* An answer that nobody looks at is a mistake: a refusal would go unnoticed. */
 #if defined(__GNUC__)
