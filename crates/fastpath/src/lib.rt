@@ -125,6 +125,7 @@ fn skip_one(s: &[u8], w: Scanner, register: u32) -> Scanner
     skip_data(s, w, register, 1, w.skip)
 }
 
+// Is there a no-operation at a place? Where fewer than four bytes are left, there is none.
 fn is_nop_at(s: &[u8], at: usize) -> bool
     requires { ⌜ at ≤ length (now s) ⌝ }
     ensures { λ r. ⌜ (r ≡ true → (at + 4 ≤ length (now (s .entry))) × (wordAt (now (s .entry)) at ≡ NOP)) ⌝ }
@@ -135,8 +136,7 @@ fn is_nop_at(s: &[u8], at: usize) -> bool
     word_at(s, at) == NOP
 }
 
-// The scanner after the no-operation at its place and those that follow. They come in rows, and a loop of their own asks
-// nothing else.
+// The scanner after the no-operation at its place and those that follow it. They come in rows, and this loop asks nothing else.
 fn skip_nops(s: &[u8], start: Scanner) -> Scanner
     requires { ⌜ AtHeader start × (start .at + 4 ≤ length (now s)) × (wordAt (now s) (start .at) ≡ NOP) ⌝ }
     ensures { λ r. ⌜ SkipKeeps (now (s .entry)) start r ⌝ }
@@ -149,8 +149,7 @@ fn skip_nops(s: &[u8], start: Scanner) -> Scanner
 }
 
 // The scanner after the packet whose header is `word`, the word at its place, or after a row of no-operations; or as it
-// was. Packets of one
-// and of two data words are told apart, so that there the next place does not wait for the count.
+// was. Packets of one and of two data words are told apart, so that there the next place does not wait for the count.
 fn skip_packet(s: &[u8], w: Scanner, word: u32) -> Scanner
     requires { ⌜ AtHeader w × (w .at + 8 ≤ length (now s)) × (word ≡ wordAt (now s) (w .at)) ⌝ }
     ensures { λ r. ⌜ SkipKeeps (now (s .entry)) w r ⌝ }

@@ -142,8 +142,8 @@ pub fn is_type2_write(word: u32) -> bool
     word < 0x5800_0000
 }
 
-// Most commands are below the two that end the reading: one comparison of the whole word passes them, and keeps it loaded at
-// once, where the two values alone would be compared byte by byte.
+// Most commands are below the two that do not let it go on: one comparison passes them. It is of the whole word, which is then
+// loaded at once; for the two values alone it would be loaded byte by byte.
 pub fn effect_of(register: u32, word: u32) -> Effect
     ensures { λ r. ⌜ r ≡ effectOf register word ⌝ }
 {
