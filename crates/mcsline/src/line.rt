@@ -16,11 +16,11 @@ use digits::digit::two_pairs;
 use digits::pairs::Sum;
 use digits::pairs::sum_pairs;
 
-const LF: u8 = 0x0A;
+pub const LF: u8 = 0x0A;
 
 const CR: u8 = 0x0D;
 
-const COLON: u8 = 0x3A;
+pub const COLON: u8 = 0x3A;
 
 // A line whose characters are in order: its count, what its pairs add to, and the place after it.
 pub(crate) enum Shape {
