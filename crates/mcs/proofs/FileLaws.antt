@@ -74,11 +74,11 @@ true-follows half address next count e = go (eqb (half * 65536 + address) next) 
     go true h = (eqb-true _ _ h, leb-true _ _ (rw h at e))
     go false h = absurd (false-true (rw h at e))
 
-lines-file : (r : Record) (e : Ending) (lines : List Line) → Fit r → linesOf (fileText (Row r e ∷ lines)) ≡ recordText (Row r e) ∷ linesOf (fileText lines)
+pub lines-file : (r : Record) (e : Ending) (lines : List Line) → Fit r → linesOf (fileText (Row r e ∷ lines)) ≡ recordText (Row r e) ∷ linesOf (fileText lines)
 unfolding fileText
 lines-file r e lines h = lines-record r e (fileText lines) h
 
-no-file : linesOf (fileText []) ≡ []
+pub no-file : linesOf (fileText []) ≡ []
 unfolding fileText
 no-file = lines-none
 
@@ -110,15 +110,15 @@ file-reads (Row End e ∷ lines) place half image whole h =
 abbrev Written : ℕ → List ℕ → List (List ℕ) → List ℕ → Type 0
 Written half image texts whole = (lines : List Line) × ((joined texts ≡ fileText lines) × FileFrom half image lines whole)
 
-no-lines-left : (texts : List (List ℕ)) → isEmpty texts ≡ true → texts ≡ []
+pub no-lines-left : (texts : List (List ℕ)) → isEmpty texts ≡ true → texts ≡ []
 no-lines-left [] e = refl
 no-lines-left (text ∷ texts) e = absurd (false-true (sym (none-some text texts) ∙ e))
 
-joined-none : joined [] ≡ fileText []
+pub joined-none : joined [] ≡ fileText []
 unfolding joined fileText
 joined-none = refl
 
-written-more : (text : List ℕ) (texts : List (List ℕ)) (row : Line) (lines : List Line) → text ≡ recordText row → joined texts ≡ fileText lines → joined (text ∷ texts) ≡ fileText (row ∷ lines)
+pub written-more : (text : List ℕ) (texts : List (List ℕ)) (row : Line) (lines : List Line) → text ≡ recordText row → joined texts ≡ fileText lines → joined (text ∷ texts) ≡ fileText (row ∷ lines)
 unfolding joined fileText
 written-more text texts row lines e f = ap₂ _++_ e f
 

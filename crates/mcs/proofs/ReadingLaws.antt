@@ -58,7 +58,7 @@ module _ (text : List ℕ) where
   abbrev pub readAt : ℕ → ℕ → List ℕ → Reading
   readAt at half image = readLines (linesOf (drop at text)) at half image
 
-  lines-end : (at : ℕ) → length text ≤ at → linesOf (drop at text) ≡ []
+  pub lines-end : (at : ℕ) → length text ≤ at → linesOf (drop at text) ≡ []
   lines-end at h = ap linesOf (drop-of-length-le text h) ∙ lines-none
 
   pub at-none : (at half : ℕ) (image : List ℕ) → length text ≤ at → readAt at half image ≡ Refused 18 at
