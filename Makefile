@@ -22,7 +22,7 @@ export RT_JOBS ?= $(shell echo $$(($$(nproc) + 1)))
 
 PROVED := crates.txt $(shell find crates -name '*.rt' -o -name '*.antt')
 # The crates whose functions C calls. An archive of the kit has the functions of one, so ours is joined from theirs.
-EXPORTED := host hostcounts hostfiles
+EXPORTED := host hostcounts hostfiles hosttexts
 BELOW := $(sort $(foreach crate,$(EXPORTED),$(shell sed -n "s/^$(crate): //p" crates.txt)))
 PARTS := $(patsubst library/%.c,target/library/%.o,$(wildcard library/*.c))
 OBJECTS := $(patsubst tools/%.c,target/tools/%.o,$(wildcard tools/*.c))

@@ -7,7 +7,7 @@ use native.Mathlib.Nat.{add-assoc}
 use native.Mathlib.Omega.{arith}
 use borrow.Author.Tests.{eq-eqb, ne-eqb}
 use lib.ListN.{length, take, drop, length-append, length-take, length-drop, take-append-drop, drop-of-length-le}
-use lib.Seq.{take-at, drop-at, take-all}
+use lib.Seq.{take-at, drop-at, take-all, take-append-le, drop-append-le}
 use Rattle.base.proofs.Laws.{below-or-not, equal-or-not}
 use Rattle.mcsline.specs.Record.{Line, recordText}
 use Rattle.mcs.specs.Text.{fileText}
@@ -115,29 +115,20 @@ by-records P none more part = go (length part) part (omega arith)
 
 -- PARTS JOIN.
 
-joins : (back front : List ℕ) (at : ℕ) → (1 ≤ length back → length front % 16 ≡ 0) → partLines at (front ++ back) ≡ partLines at front ++ partLines (at + length front) back
-joins back = by-records (λ (front : List ℕ). (at : ℕ) → (1 ≤ length back → length front % 16 ≡ 0) → partLines at (front ++ back) ≡ partLines at front ++ partLines (at + length front) back) none more
-  where
-    none : (at : ℕ) → (1 ≤ length back → 0 % 16 ≡ 0) → partLines at back ≡ partLines at [] ++ partLines (at + 0) back
-    none at h = let z : at + 0 ≡ at = omega arith in rw (z, part-none at) refl
-
-    more : (bytes rest : List ℕ) → Piece bytes rest → ((at : ℕ) → (1 ≤ length back → length rest % 16 ≡ 0) → partLines at (rest ++ back) ≡ partLines at rest ++ partLines (at + length rest) back) →
-        (at : ℕ) → (1 ≤ length back → length (bytes ++ rest) % 16 ≡ 0) → partLines at ((bytes ++ rest) ++ back) ≡ partLines at (bytes ++ rest) ++ partLines (at + length (bytes ++ rest)) back
-    more bytes rest piece ih at h =
-        let l = length-append bytes rest in
-        let m = length-append rest back in
-        let some = piece .some in
-        let most = piece .most in
-        let whole : (1 ≤ length rest) ⊎ (length rest ≤ 0) → 1 ≤ length (rest ++ back) → length bytes ≡ 16 =
-        λ c s. ⊎-elim (λ r. piece .full r) (λ r. let f : length (bytes ++ rest) % 16 ≡ 0 = h (omega arith) in omega arith) c in
-        let longer : Piece bytes (rest ++ back) = record { some = some; most = most; full = whole (below-or-not 0 (length rest)) } in
-        let left : 1 ≤ length back → length rest % 16 ≡ 0 = λ s. (let f : length (bytes ++ rest) % 16 ≡ 0 = h s in let w : length bytes ≡ 16 = longer .full (omega arith) in omega arith) in
-        let place : at + length (bytes ++ rest) ≡ at + length bytes + length rest = omega arith in
-        ap (partLines at) (append-assoc bytes rest back)
-        ∙ part-first at bytes (rest ++ back) longer
-        ∙ ap (λ (x : List Line). recordLines at bytes ++ x) (ih (at + length bytes) left)
-        ∙ sym (append-assoc (recordLines at bytes) (partLines (at + length bytes) rest) (partLines (at + length bytes + length rest) back))
-        ∙ ap₂ _++_ (sym (part-first at bytes rest piece)) (ap (λ (n : ℕ). partLines n back) (sym place))
+lines-join : (k m at : ℕ) (front back : List ℕ) → length front ≡ 16 * k → linesFrom (k + m) at (front ++ back) ≡ linesFrom k at front ++ linesFrom m (at + 16 * k) back
+unfolding linesFrom
+lines-join zero m at [] back h = let a : 0 + m ≡ m = omega arith in let b : at + 16 * 0 ≡ at = omega arith in rw (a, b) refl
+lines-join zero m at (x ∷ front) back h = absurd (omega arith)
+lines-join (suc k) m at front back h =
+    let a : suc k + m ≡ suc (k + m) = omega arith in
+    let b : at + 16 + 16 * k ≡ at + 16 * suc k = omega arith in
+    let ih = lines-join k m (at + 16) (drop 16 front) back (omega (arith, length-drop 16 front)) in
+    rw (a, take-append-le 16 front back (omega arith), drop-append-le 16 front back (omega arith), ih, b) (sym (append-assoc (recordLines at (take 16 front)) (linesFrom k (at + 16) (drop 16 front)) (linesFrom m (at + 16 * suc k) back)))
 
 pub parts-join : PartsJoin
-parts-join at front back h = ap fileText (joins back front at (λ s. h)) ∙ file-append (partLines at front) (partLines (at + length front) back)
+parts-join at front back h =
+    let k = recordsOf (length front) in
+    let m = recordsOf (length back) in
+    let all : recordsOf (length (front ++ back)) ≡ k + m = omega (arith, length-append front back) in
+    let long : 16 * k ≡ length front = omega arith in
+    rw all (ap fileText (lines-join k m at front back (sym long)) ∙ file-append (linesFrom k at front) (linesFrom m (at + 16 * k) back) ∙ rw long refl)

@@ -1,14 +1,14 @@
 -- Laws of digits: a digit and its value, both ways.
 use Prim.Native.Nat.{ℕ, zero, suc, _+_, _*_, _/_, _%_, _<_, _≤_}
-use mathlib.Core.Path.{_≡_, refl, sym}
+use mathlib.Core.Path.{_≡_, refl, sym, ap}
 use mathlib.Core.Bool.{Bool, true, false, _&&_}
-use mathlib.Core.List.{List, [], _∷_}
+use mathlib.Core.List.{List, [], _∷_, _++_}
 use native.Mathlib.Omega.{arith}
 use borrow.Author.Tests.{eqb-true, lt-ltb, ltb-true, ltb-false}
 use lib.Dec.{eqb, ltb}
 use lib.ListN.{length, getD}
 use Rattle.base.proofs.Laws.{both-true}
-use Rattle.digits.specs.Digit.{digits, hex, placeIn, digitOf, isDigit}
+use Rattle.digits.specs.Digit.{digits, hex, byteSum, placeIn, digitOf, isDigit}
 
 place-most : (ds : List ℕ) (c : ℕ) → placeIn ds c ≤ length ds
 unfolding placeIn
@@ -76,3 +76,15 @@ pub hex-long : (bytes : List ℕ) → length (hex bytes) ≡ 2 * length bytes
 unfolding hex
 hex-long [] = refl
 hex-long (b ∷ bytes) = let h = hex-long bytes in omega arith
+
+-- The digits of bytes and more bytes stand one after the other;
+pub hex-append : (xs ys : List ℕ) → hex (xs ++ ys) ≡ hex xs ++ hex ys
+unfolding hex
+hex-append [] ys = refl
+hex-append (x ∷ xs) ys = ap (λ (l : List ℕ). getD digits (x / 16) 0 ∷ getD digits (x % 16) 0 ∷ l) (hex-append xs ys)
+
+-- a byte more adds itself.
+pub total-end : (xs : List ℕ) (x : ℕ) → byteSum (xs ++ x ∷ []) ≡ byteSum xs + x
+unfolding byteSum
+total-end [] x = omega arith
+total-end (y ∷ ys) x = let ih : byteSum (ys ++ x ∷ []) ≡ byteSum ys + x = total-end ys x in omega arith

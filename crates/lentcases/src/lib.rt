@@ -11,7 +11,7 @@ use caselines::room;
 use caselines::words;
 use host::build::tealsettle_build;
 use host::cut::tealsettle_cut_run;
-use hostfiles::text::tealsettle_mcs_read;
+use hosttexts::reading::tealsettle_mcs_read;
 
 fn build(n: Numbers, image: &[u8], out: &mut [u8]) {
     let answer = tealsettle_build(SPI, n.f, n.g, n.h, image, out);

@@ -9,7 +9,7 @@ use lib.Dec.{eqb}
 use lib.ListN.{length, getD, take, length-append, drop-of-length-le}
 use lib.Seq.{take-append-seam, split-at, length-take-le}
 use Rattle.digits.specs.Digit.{hex, byteSum}
-use Rattle.digits.proofs.Laws.{hex-long}
+use Rattle.digits.proofs.Laws.{hex-long, total-end}
 use Rattle.mcsline.specs.Record.{COLON, Ending, endingText, lineText, Record, Data, ExtendedLinearAddress, End, bodyOf, checksum, pairsOf, Row, recordText, AllBytes, Fit}
 use Rattle.mcsline.specs.Line.{Spelled, Pairs, Broken, lineSpells, countOf, Is, Refuses, typed, parsed}
 use Rattle.mcsline.proofs.TypeLaws.{Typing, as-data, as-end, as-upper, as-none, typing, typed-data, typed-end, typed-upper}
@@ -34,11 +34,6 @@ unfolding AllBytes
 bytes-take zero xs h = tt
 bytes-take (suc n) [] h = tt
 bytes-take (suc n) (x ∷ xs) h = (h .0, bytes-take n xs (h .1))
-
-total-end : (xs : List ℕ) (x : ℕ) → byteSum (xs ++ x ∷ []) ≡ byteSum xs + x
-unfolding byteSum
-total-end [] x = omega arith
-total-end (y ∷ ys) x = let ih : byteSum (ys ++ x ∷ []) ≡ byteSum ys + x = total-end ys x in omega arith
 
 sum-small : (t : ℕ) → (256 - t % 256) % 256 < 256
 sum-small t = omega arith

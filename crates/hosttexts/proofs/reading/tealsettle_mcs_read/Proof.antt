@@ -2,8 +2,8 @@
 use mathlib.Core.Path.{ap, _∙_}
 use borrow.Author.Needs.{needs}
 use Rattle.results.specs.Text.{readResult}
-use Rattle.hostfiles.proofs.text.tealsettle_mcs_read.Statement.{statement}
-use Rattle.hostfiles.proofs.text.tealsettle_mcs_read.Tie as tie
+use Rattle.hosttexts.proofs.reading.tealsettle_mcs_read.Statement.{statement}
+use Rattle.hosttexts.proofs.reading.tealsettle_mcs_read.Tie as tie
 
 read-requires : tie.Need-read-requires
 read-requires c κs = search needs

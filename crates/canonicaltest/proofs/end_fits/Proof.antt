@@ -1,0 +1,28 @@
+-- `end_fits` meets its contract.
+use mathlib.Core.Path.{refl}
+use native.Mathlib.Omega.{arith}
+use borrow.Author.Tests.{eq-eqb, ne-eqb, le-leb, lt-leb}
+use Rattle.base.specs.Question.{ask}
+use Rattle.canonical.specs.Canonical.{writable}
+use Rattle.canonical.specs.Pass.{endFits}
+use Rattle.canonicaltest.proofs.end_fits.Statement.{statement}
+use Rattle.canonicaltest.proofs.end_fits.Tie as tie
+
+returns : tie.Need-returns
+unfolding endFits ask
+returns c = rw (c .if1 .taken) refl
+
+returns-2 : tie.Need-returns-2
+unfolding endFits ask
+returns-2 c = rw (c .before .if1 .left, ne-eqb _ _ (c .if2 .taken)) refl
+
+returns-3 : tie.Need-returns-3
+unfolding endFits ask writable
+returns-3 c = rw (c .before .before .if1 .left, eq-eqb _ _ (c .before .if2 .left), lt-leb 1 (c .before .before .before .args .next) (omega arith)) refl
+
+returns-4 : tie.Need-returns-4
+unfolding endFits ask writable
+returns-4 c = rw (c .before .before .if1 .left, eq-eqb _ _ (c .before .if2 .left), le-leb 1 (c .before .before .before .args .next) (omega arith)) refl
+
+pub end-fits-spec : {M : Type 1} → statement M
+end-fits-spec = tie.close (tie.spec returns returns-2 returns-3 returns-4)

@@ -1,0 +1,4 @@
+-- What a C host gets of MCS text that is written or tested.
+pub mod Types
+pub mod Result
+pub mod Writing
