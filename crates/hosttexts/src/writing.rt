@@ -3,10 +3,10 @@ ghost use mathlib.Core.Path.{_≡_};
 ghost use lib.ListN.{length};
 ghost use Rattle.mcswriter.specs.Mcswriter.{lengthAnswer, writeAnswer, writeOutput};
 ghost use Rattle.hosttexts.specs.Result.{textResult};
-ghost use Rattle.hosttexts.specs.Writing.{formCall};
-use canonicaltest::is_canonical;
+ghost use Rattle.hosttexts.specs.Writing.{WrittenBack, formCall};
 use crate::result::TealsettleText;
 use crate::result::text_result;
+use canonicaltest::is_canonical;
 use mcswriter::text_length;
 use mcswriter::write;
 
@@ -15,6 +15,7 @@ use mcswriter::write;
 pub extern "C" fn tealsettle_mcs_write(image: &[u8], out: &mut [u8]) -> TealsettleText
     ensures answer { λ r. ⌜ r ≡ textResult (writeAnswer (now (image .entry)) (length (now (out .entry)))) ⌝ }
     ensures output { λ r. ⌜ now (out .exit) ≡ writeOutput (now (image .entry)) (now (out .entry)) ⌝ }
+    ensures back { λ r. ⌜ WrittenBack (now (image .entry)) r (now (out .exit)) ⌝ }
 {
     text_result(write(image, out))
 }
