@@ -49,8 +49,8 @@ extern "C" {
 #endif
 
 /* The version of this header: as text, and as a number, its parts times 10,000, 100 and 1. */
-#define TEALSETTLE_VERSION "0.16.1"
-#define TEALSETTLE_VERSION_NUMBER 1601u
+#define TEALSETTLE_VERSION "0.17.0"
+#define TEALSETTLE_VERSION_NUMBER 1700u
 
 /* An answer that nobody looks at is a mistake: a refusal would go unnoticed. */
 #if defined(__GNUC__)
@@ -202,6 +202,30 @@ typedef struct {
  * text's length is always large enough. */
 TEALSETTLE_MUST_USE
 TealsettleRead tealsettle_mcs_read(const uint8_t *text, size_t text_length, uint8_t *out, size_t out_length);
+
+/* The MCS text of an image. */
+typedef struct {
+    uint32_t number; /* 0, or 4; of tealsettle_mcs_write also 19 */
+    size_t place;    /* 0 */
+    size_t length;   /* of the text, in bytes */
+} TealsettleText;
+
+/* How long the text is that tealsettle_mcs_write gives for an image of so many bytes. An image has 1 to 16,777,216, and its
+ * text at most 46,141,452; any other length gets 4. */
+TEALSETTLE_MUST_USE
+TealsettleText tealsettle_mcs_length(size_t image_length);
+
+/* Writes an image as MCS text to the front of `out`. Bytes of `out` after the text stay as they were. For each image there is one
+ * such text: records of 16 bytes, the last one shorter; before the data at each multiple of 65,536, the first at 0, a record of
+ * type 04; the end record; capital digits, and LF after each record. tealsettle_mcs_read gives the image back. Any bytes are an
+ * image here: whether they load is what tealsettle_image_check says. */
+TEALSETTLE_MUST_USE
+TealsettleText tealsettle_mcs_write(const uint8_t *image, size_t image_length, uint8_t *out, size_t out_length);
+
+/* Whether a text is one that tealsettle_mcs_write gives for some image: 1; or 0, for all other bytes, also where they are MCS
+ * text in another form. */
+TEALSETTLE_MUST_USE
+uint32_t tealsettle_mcs_form(const uint8_t *text, size_t text_length);
 
 /* ---- What loads ----
  *

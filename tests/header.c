@@ -58,6 +58,18 @@ static size_t count_writes(void)
     return writes;
 }
 
+/* An image as MCS text, and back. The buffer has just room for the text. */
+static int is_text_of_image(void)
+{
+    uint8_t text[64], back[sizeof image];
+    TealsettleText length = tealsettle_mcs_length(sizeof image);
+    TealsettleText written = tealsettle_mcs_write(image, sizeof image, text, sizeof text);
+    TealsettleRead read = tealsettle_mcs_read(text, written.length, back, sizeof back);
+    return length.number == 0 && written.number == 0 && length.length == sizeof text && written.length == sizeof text &&
+           tealsettle_mcs_form(text, written.length) == 1 && read.number == 0 && read.length == sizeof image &&
+           memcmp(back, image, sizeof image) == 0;
+}
+
 /* The three ways to say the version are one. */
 static int is_one_version(void)
 {
@@ -73,7 +85,8 @@ int main(void)
     uint32_t number = run();
     TealsettleBoot boot = tealsettle_boot(TEALSETTLE_SPI, chip, sizeof chip);
     int good = built.number == 0 && number == 0 && orders == 37 && tealsettle_loads(boot) && boot.jumped &&
-               count_writes() == boot.writes && tealsettle_switch(TEALSETTLE_SPI, chip, sizeof chip).on && is_one_version();
+               count_writes() == boot.writes && tealsettle_switch(TEALSETTLE_SPI, chip, sizeof chip).on && is_one_version() &&
+               is_text_of_image();
     TealsettleListing list = tealsettle_writes(TEALSETTLE_SPI, chip, sizeof chip);
     good = good && tealsettle_list_next(1, list.cursor, chip, sizeof chip).number == TEALSETTLE_REFUSED_BAD_CHIP_LENGTH;
     TealsettleCounts programmed = tealsettle_after_program(0xFFFFFFFFu, 0xAA995566u), erased = tealsettle_after_erase(0);
