@@ -1,6 +1,7 @@
 /* The reader of MCS text: a first pass that asks every question of every line, and a second that writes, since a refused
  * text leaves the buffer as it was. Both take eight characters at a time in a 64-bit word, the first in its lowest byte,
- * and what is left of a line by a table of digits. */
+ * and what is left of a line by a table of digits. And whether a text is in the form of the writer, line by line: that takes
+ * nothing from the writer. */
 #include "reference.h"
 
 #include <string.h>
@@ -142,6 +143,12 @@ static inline Record check_line(const uint8_t *text, size_t length, size_t at)
     return record_allowed(r.type, count, r.address) ? r : refused(TEALSETTLE_REFUSED_BAD_RECORD);
 }
 
+/* What a line of type 04 says. */
+static inline uint32_t upper_half(const uint8_t *line)
+{
+    return pair(line + 9) << 8 | pair(line + 11);
+}
+
 /* How many bytes there are. */
 static ReferenceRead check_text(const uint8_t *text, size_t length)
 {
@@ -154,7 +161,7 @@ static ReferenceRead check_text(const uint8_t *text, size_t length)
         if (r.type == 1)
             return r.end < length ? (ReferenceRead){TEALSETTLE_REFUSED_BAD_END, r.end, 0} : (ReferenceRead){0, 0, next};
         if (r.type == 4)
-            upper = pair(text + at + 9) << 8 | pair(text + at + 11);
+            upper = upper_half(text + at);
         else if (((size_t)upper << 16 | r.address) != next || r.address + r.count > 65536)
             return (ReferenceRead){TEALSETTLE_REFUSED_BAD_ADDRESS, at, 0};
         else
@@ -205,4 +212,43 @@ ReferenceRead reference_mcs_read(const uint8_t *text, size_t text_length, uint8_
     if (r.number == 0)
         decode_text(text, text_length, out);
     return r;
+}
+
+/* ---- Whether a text is in the form of the writer ---- */
+
+enum { PER_RECORD = 16, PER_HALF = 65536 };
+
+/* How much of a text has been passed: the data bytes, and the records of type 04. */
+typedef struct {
+    size_t bytes, halves;
+} Passed;
+
+/* Whether a record is one that comes next. A data record follows only whole ones, and the record of its upper half. Before the
+ * end each such record has data after it, and there are as many bytes as an image has. */
+static inline int comes_next(const Record *r, const uint8_t *line, const Passed *p)
+{
+    size_t begun = p->halves * PER_HALF; /* the bytes that may stand before the next record of type 04 */
+    if (r->type == 0)
+        return p->bytes < begun && p->bytes % PER_RECORD == 0 && r->count <= PER_RECORD && r->address == p->bytes % PER_HALF;
+    if (r->type == 4)
+        return p->bytes == begun && upper_half(line) == p->halves;
+    return p->bytes > 0 && p->bytes <= REFERENCE_CHIP_MAX && p->bytes + PER_HALF > begun;
+}
+
+int reference_mcs_form(const uint8_t *text, size_t length)
+{
+    Passed p = {0, 0};
+    size_t at = 0;
+    make_digits();
+    while (at < length) {
+        Record r = check_line(text, length, at);
+        if (r.number != 0 || text[r.end - 2] == '\r' || !comes_next(&r, text + at, &p))
+            return 0;
+        if (r.type == 1)
+            return r.end == length;
+        p.bytes += r.type == 0 ? r.count : 0;
+        p.halves += r.type == 4;
+        at = r.end;
+    }
+    return 0;
 }

@@ -40,6 +40,11 @@ typedef struct {
 
 ReferenceRead reference_mcs_read(const uint8_t *text, size_t text_length, uint8_t *out, size_t out_length);
 
+/* The one MCS text that is written for an image, and how long it is (0 for a refusal); and whether a text is such a one. */
+uint32_t reference_mcs_length(size_t image_length, size_t *length);
+uint32_t reference_mcs_write(const uint8_t *image, size_t image_length, uint8_t *out, size_t out_length, size_t *length);
+int reference_mcs_form(const uint8_t *text, size_t text_length);
+
 /* ---- What loads ---- */
 
 /* Beside a refusal, and where nothing loads, all that does not apply is 0. */
