@@ -2,61 +2,19 @@
  * whole files of more than 65,536 bytes as other tools write them, with the answers that the specification gives.
  * Answers and every byte of the buffer are compared. Prints how many were tried. */
 #include "compare.h"
+#include "texts.h"
 
 enum { TEXTS = 400000, ROOM = 2000, MARK = 0x5A };
 
-static uint64_t seed = 88172645463325252u;
-
-static unsigned below(unsigned n)
-{
-    seed ^= seed << 13, seed ^= seed >> 7, seed ^= seed << 17;
-    return (unsigned)((seed >> 11) % n);
-}
-
-static int one_in(unsigned n)
-{
-    return below(n) == 0;
-}
-
 /* Texts. */
-
-static uint8_t text[1 << 19];
-static size_t length;
-
-static void put_pairs(const uint8_t *pairs, unsigned count)
-{
-    for (unsigned i = 0; i < count; i++)
-        length += (size_t)sprintf((char *)text + length, "%02X", pairs[i]);
-}
-
-static void put_record(unsigned address, unsigned type, const uint8_t *data, unsigned count, int cr)
-{
-    uint8_t pairs[260] = {(uint8_t)count, (uint8_t)(address >> 8), (uint8_t)address, (uint8_t)type};
-    unsigned sum = 0;
-    memcpy(pairs + 4, data, count);
-    for (unsigned i = 0; i < count + 4; i++)
-        sum += pairs[i];
-    pairs[count + 4] = (uint8_t)(0 - sum);
-    text[length++] = ':';
-    put_pairs(pairs, count + 5);
-    if (cr)
-        text[length++] = '\r';
-    text[length++] = '\n';
-}
-
-static void fill(uint8_t *data, unsigned count)
-{
-    for (unsigned j = 0; j < count; j++)
-        data[j] = (uint8_t)below(256);
-}
 
 /* A data record, now and then after one of type 04, and now and then with a wrong address, type, count or line end.
  * Returns the address after it. */
-static unsigned put_some_record(unsigned address, int cr, uint8_t *data)
+static size_t put_some_record(size_t address, int cr, uint8_t *data)
 {
     uint8_t half[2] = {0, (uint8_t)(one_in(8) ? below(3) : 0)};
-    unsigned count = one_in(60) ? 0 : 1 + below(one_in(10) ? 255 : 20);
-    fill(data, count);
+    size_t count = one_in(60) ? 0 : 1 + below(one_in(10) ? 255 : 20);
+    fill_random(data, count);
     if (one_in(20))
         put_record(one_in(10) ? below(300) : 0, 4, half, one_in(10) ? below(3) : 2, cr);
     put_record(address + (one_in(40) ? below(3) : 0), one_in(60) ? below(7) : 0, data, count, one_in(30) ? !cr : cr);
@@ -67,36 +25,15 @@ static unsigned put_some_record(unsigned address, int cr, uint8_t *data)
 static void make_file(void)
 {
     uint8_t data[256] = {MARK}; /* never read uninitialised, also where no record came */
-    unsigned next = 0, lines = below(6);
+    size_t next = 0, lines = below(6);
     int cr = one_in(2);
-    length = 0;
-    for (unsigned i = 0; i < lines; i++)
+    text_length = 0;
+    for (size_t i = 0; i < lines; i++)
         next = put_some_record(next, cr, data);
     if (!one_in(12))
         put_record(one_in(50) ? below(3) : 0, 1, data, one_in(50) ? below(2) : 0, cr);
     if (one_in(12))
-        text[length++] = (uint8_t)below(256);
-}
-
-/* One damage: a byte changed, cut off, taken out or put in. */
-static void damage(void)
-{
-    static const char likely[] = "0123456789ABCDEF:\r\nabcdefG@/ ";
-    size_t at = length ? below((unsigned)length) : 0;
-    uint8_t c = (uint8_t)(one_in(2) ? below(256) : (unsigned)likely[below(sizeof likely - 1)]);
-    unsigned kind = length ? below(4) : 3;
-    if (kind == 0) {
-        text[at] = c;
-    } else if (kind == 1) {
-        length = at;
-    } else if (kind == 2) {
-        memmove(text + at, text + at + 1, length - at - 1);
-        length--;
-    } else {
-        memmove(text + at + 1, text + at, length - at);
-        text[at] = c;
-        length++;
-    }
+        text[text_length++] = (uint8_t)below(256);
 }
 
 /* Whole files. */
@@ -137,13 +74,13 @@ enum { FILES = sizeof files / sizeof files[0] };
 
 static void put_image(const uint8_t *image, const File *file)
 {
-    length = 0;
+    text_length = 0;
     for (size_t i = 0; i < file->image_length; i += file->per_record) {
         size_t left = file->image_length - i;
         uint8_t half[2] = {(uint8_t)(i >> 24), (uint8_t)(i >> 16)};
         if (i % 65536 == 0 && (i == 0 || file->each_segment))
             put_record(0, 4, half, 2, file->cr);
-        put_record((unsigned)i, 0, image + i, left < file->per_record ? (unsigned)left : file->per_record, file->cr);
+        put_record(i, 0, image + i, min(left, file->per_record), file->cr);
     }
     put_record(0, 1, image, 0, file->cr);
 }
@@ -160,8 +97,8 @@ static int file_answered(const File *file)
     memset(theirs, MARK, sizeof theirs);
     memset(expected, MARK, sizeof expected);
     memcpy(expected, image, read);
-    TealsettleRead r = tealsettle_mcs_read(text, length, ours, sizeof ours);
-    ReferenceRead m = reference_mcs_read(text, length, theirs, sizeof theirs);
+    TealsettleRead r = tealsettle_mcs_read(text, text_length, ours, sizeof ours);
+    ReferenceRead m = reference_mcs_read(text, text_length, theirs, sizeof theirs);
     return r.number == file->number && r.place == file->place && r.length == read && m.number == r.number && m.place == r.place &&
            m.length == r.length && memcmp(ours, expected, sizeof ours) == 0 && memcmp(theirs, expected, sizeof theirs) == 0;
 }
@@ -173,8 +110,8 @@ static int text_differs(size_t room)
     static uint8_t ours[ROOM + 8], theirs[ROOM + 8];
     memset(ours, MARK, sizeof ours);
     memset(theirs, MARK, sizeof theirs);
-    TealsettleRead r = tealsettle_mcs_read(text, length, ours, room);
-    ReferenceRead m = reference_mcs_read(text, length, theirs, room);
+    TealsettleRead r = tealsettle_mcs_read(text, text_length, ours, room);
+    ReferenceRead m = reference_mcs_read(text, text_length, theirs, room);
     tried++, answers[m.number]++;
     return differs("number", r.number, m.number) || differs("place", r.place, m.place) || differs("length", r.length, m.length) ||
            bytes_differ("the buffer's bytes", ours, theirs, sizeof ours);
@@ -183,11 +120,11 @@ static int text_differs(size_t room)
 static int try_text(void)
 {
     make_file();
-    for (unsigned k = one_in(3) ? 1 + below(2) : 0; k > 0; k--)
-        damage();
+    for (size_t k = one_in(3) ? 1 + below(2) : 0; k > 0; k--)
+        damage_text();
     if (!text_differs(one_in(8) ? below(60) : ROOM))
         return 0;
-    printf("%.*s\n", (int)length, (char *)text);
+    printf("%.*s\n", (int)text_length, (char *)text);
     return 1;
 }
 

@@ -32,6 +32,10 @@ static void try_files(void)
     TealsettleRead none = tealsettle_mcs_read(end_record, sizeof end_record - 1, NULL, 0);
     expect("mcs_read, out", none.number, 0);
     expect("mcs_read, out", none.length, 0);
+    expect("mcs_write, image", tealsettle_mcs_write(NULL, 0, &some_byte, 1).number, TEALSETTLE_REFUSED_BAD_IMAGE_LENGTH);
+    expect("mcs_write, both", tealsettle_mcs_write(NULL, 0, NULL, 0).number, TEALSETTLE_REFUSED_BAD_IMAGE_LENGTH);
+    expect("mcs_write, out", tealsettle_mcs_write(image, sizeof image, NULL, 0).number, TEALSETTLE_REFUSED_NO_ROOM);
+    expect("mcs_form", tealsettle_mcs_form(NULL, 0), 0);
 }
 
 static void try_chips(void)
