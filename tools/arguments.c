@@ -74,6 +74,9 @@ static void take_option(const Command *command, Arguments *arguments, char lette
     case 'w':
         arguments->writes = true;
         return;
+    case 'b':
+        arguments->plain = true;
+        return;
     case 'F':
         arguments->length = read_number(command, option, value);
         return;
@@ -89,6 +92,12 @@ static void take_option(const Command *command, Arguments *arguments, char lette
     }
 }
 
+/* Whether an option stands by itself. */
+static bool is_flag(char letter)
+{
+    return letter == 'w' || letter == 'b';
+}
+
 /* The option in a word, with its value there or in the next word; the last word that it takes. */
 static char **read_option(const Command *command, Arguments *arguments, char **word)
 {
@@ -96,9 +105,9 @@ static char **read_option(const Command *command, Arguments *arguments, char **w
     char *value = word[0] + 2;
     if (strcmp(word[0], "--help") == 0)
         show_help(command);
-    if (!strchr(command->options, letter) || (letter == 'w' && *value))
+    if (!strchr(command->options, letter) || (is_flag(letter) && *value))
         wrong_use(command, word[0], "is no option of this command");
-    if (letter != 'w' && !*value)
+    if (!is_flag(letter) && !*value)
         value = *++word;
     if (!value)
         wrong_use(command, word[-1], "its value is missing");

@@ -89,9 +89,9 @@ bool flushed(int descriptor)
 }
 
 /* To standard output, a device or a pipe, as it is. */
-static void write_through(int descriptor, const char *name, const uint8_t *bytes, size_t length)
+static void write_through(int descriptor, const char *name, bool is_text, const uint8_t *bytes, size_t length)
 {
-    if (isatty(descriptor))
+    if (!is_text && isatty(descriptor))
         trouble(name, "is a terminal, and these bytes are no text: give a file or a pipe");
     if (!write_all(descriptor, bytes, length) || close(descriptor) != 0)
         system_trouble(name);
@@ -176,12 +176,12 @@ void replace_file(const char *name, const uint8_t *bytes, size_t length)
     write_beside(name, place, &old, bytes, length);
 }
 
-static void write_device(const char *name, const uint8_t *bytes, size_t length)
+static void write_device(const char *name, bool is_text, const uint8_t *bytes, size_t length)
 {
     int descriptor = open(name, O_WRONLY | O_CLOEXEC);
     if (descriptor < 0)
         system_trouble(name);
-    write_through(descriptor, name, bytes, length);
+    write_through(descriptor, name, is_text, bytes, length);
 }
 
 bool is_same_file(const struct stat *one, const struct stat *other)
@@ -219,20 +219,30 @@ static void write_new(const char *name, const uint8_t *bytes, size_t length)
     write_beside(name, name, NULL, bytes, length);
 }
 
-void write_file(const char *name, const uint8_t *bytes, size_t length)
+static void write_kind(const char *name, bool is_text, const uint8_t *bytes, size_t length)
 {
     struct stat old;
     bool exists = stat(name, &old) == 0, is_free = !exists && errno == ENOENT;
     if (is_standard_output(name))
-        write_through(STDOUT_FILENO, "standard output", bytes, length);
+        write_through(STDOUT_FILENO, "standard output", is_text, bytes, length);
     else if (exists && S_ISREG(old.st_mode))
         replace_file(name, bytes, length);
     else if (exists)
-        write_device(name, bytes, length);
+        write_device(name, is_text, bytes, length);
     else if (is_free)
         write_new(name, bytes, length);
     else
         system_trouble(name);
+}
+
+void write_file(const char *name, const uint8_t *bytes, size_t length)
+{
+    write_kind(name, false, bytes, length);
+}
+
+void write_text(const char *name, const uint8_t *text, size_t length)
+{
+    write_kind(name, true, text, length);
 }
 
 int end_output(int status)

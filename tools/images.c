@@ -2,6 +2,7 @@
 #include "tool.h"
 
 #include <stdlib.h>
+#include <string.h>
 
 static File read_image_file(const char *name)
 {
@@ -12,7 +13,7 @@ static File read_image_file(const char *name)
 }
 
 /* An image has fewer bytes than half its text. */
-static int image_of_text(const File *text, File *image)
+int image_of_text(const File *text, File *image)
 {
     size_t room = text->length / 2 + 1;
     *image = (File){.name = joined(text->name, " (image in MCS text)"), .bytes = held(malloc(room))};
@@ -50,6 +51,41 @@ int read_packed_image(const char *name, File *image)
     if (form.form == TEALSETTLE_BINARY)
         form.form = TEALSETTLE_TEXT;
     return image_of_form(&file, &form, image);
+}
+
+/* Whether a colon is the first character, also after a byte order mark. So begins a text that is told as plain bytes, for a
+ * byte above 7F by which it is damaged, or which is in that mark. */
+static bool begins_as_text(const File *file)
+{
+    return memchr(file->bytes, ':', file->length < 4 ? file->length : 4);
+}
+
+/* An empty file is an empty image: it is refused for its length, not as a text without an end. */
+int read_any_image(const char *name, bool plain, File *image)
+{
+    File file = read_image_file(name);
+    TealsettleForm form = tealsettle_file_form(file.bytes, file.length);
+    bool as_text = begins_as_text(&file);
+    if (plain || file.length == 0)
+        form = (TealsettleForm){.form = TEALSETTLE_BINARY};
+    else if (form.form == TEALSETTLE_BINARY && as_text)
+        form.form = TEALSETTLE_TEXT;
+    int status = image_of_form(&file, &form, image);
+    if (status != DONE && form.form == TEALSETTLE_TEXT && !as_text)
+        fprintf(stderr, "tealsettle: %s: it was read as text, as it has no byte above 7F: if it is the image itself, give -b\n",
+                file.name);
+    return status;
+}
+
+int text_of_image(const File *image, File *text)
+{
+    size_t room = tealsettle_mcs_length(image->length).length; /* 0 for an image that is refused */
+    *text = (File){.name = image->name, .bytes = held(malloc(room + 1))};
+    TealsettleText answer = tealsettle_mcs_write(image->bytes, image->length, text->bytes, room);
+    char why[80];
+    snprintf(why, sizeof why, "it has %zu bytes, and an image has 1 to 16,777,216", image->length);
+    text->length = answer.length;
+    return answer.number == 0 ? DONE : refused_because(image->name, answer.number, answer.place, why);
 }
 
 int refused_image(const File *image, uint32_t number, size_t place)

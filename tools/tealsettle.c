@@ -6,8 +6,8 @@
 #include <string.h>
 
 static const Command *const commands[] = {
-    &report_command, &switch_command, &check_command, &image_command, &build_command, &update_command, &cut_command,
-    &outcomes_command, &heaviest_command,
+    &report_command, &switch_command, &check_command, &image_command, &mcs_command, &is_mcs_command, &build_command,
+    &update_command, &cut_command, &outcomes_command, &heaviest_command,
 };
 enum { COMMANDS = sizeof commands / sizeof *commands };
 

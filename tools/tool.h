@@ -39,7 +39,7 @@ enum { MOST_FILES = 3, MOST_WORDS = 2 };
 
 typedef struct {
     Number length, update, area, orders; /* -F, -U, -A, -k */
-    bool writes;                         /* -w */
+    bool writes, plain;                  /* -w, -b */
     const char *output;                  /* -o; or null */
     const char *files[MOST_FILES];       /* in the order of the usage line, */
     Number words[MOST_WORDS];            /* and so are switch words, or numbers */
@@ -116,8 +116,10 @@ void check_not_read(const char *input, const char *output);
 /* Replaces a file, whole or not at all: beside it, and then in its place. It must not be in a run, nor write-protected. */
 void replace_file(const char *name, const uint8_t *bytes, size_t length);
 
-/* Writes a file so, a new one or in the place of another; or standard output, a device or a pipe as they are. */
+/* Writes a file so, a new one or in the place of another; or standard output, a device or a pipe as they are. A terminal gets no
+ * bytes, but text. */
 void write_file(const char *name, const uint8_t *bytes, size_t length);
+void write_text(const char *name, const uint8_t *text, size_t length);
 
 /* The status to end with: TROUBLE if standard output has not taken all that was printed. */
 int end_output(int status);
@@ -130,6 +132,14 @@ int read_image(const char *name, File *image);
 
 /* The same of MCS text or a BIT file. All else is refused as text. */
 int read_packed_image(const char *name, File *image);
+
+/* The same for a command that does not ask whether the image loads. What begins as a text does is then read as one, damaged or
+ * not, and an empty file is an empty image. If it is `plain` (-b), the file's bytes are the image, whatever they are. */
+int read_any_image(const char *name, bool plain, File *image);
+
+/* The image of MCS text, and the MCS text of an image. DONE; or a refusal, which has been said. */
+int image_of_text(const File *text, File *image);
+int text_of_image(const File *image, File *text);
 
 /* The refusal of an image. */
 int refused_image(const File *image, uint32_t number, size_t place);
@@ -197,7 +207,7 @@ void end_progress(void);
 
 /* ---- The commands ---- */
 
-extern const Command report_command, switch_command, check_command, image_command, build_command, update_command, cut_command,
-    outcomes_command, heaviest_command;
+extern const Command report_command, switch_command, check_command, image_command, mcs_command, is_mcs_command, build_command,
+    update_command, cut_command, outcomes_command, heaviest_command;
 
 #endif
