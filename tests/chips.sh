@@ -1,6 +1,6 @@
 # What the tests of the example and of the tool share: images and chips, made here from the specification; what must load; what a
 # command says; runs that are stopped, fail, are held, or have odd standard files. A test that takes this in has `test` (its name),
-# `work` (its folder) and `chip` (the chip's file). One with runs also has `progress` (the file of what they say), `runner` (the words
+# `work` (its folder), `chip` (the chip's file) and `tool` (by which the texts of images are written). One with runs also has `progress` (the file of what they say), `runner` (the words
 # of a command that runs an image on a chip, whose flash may fail), `note_run` (which sets `ordered` after a run), `booted` (a command
 # that says what the chip loads), `answer` (what that is for each image) and `calls` (how many calls on its chip a run has, and one).
 
@@ -42,29 +42,14 @@ refuses() {
 
 # ---- Images and chips ----
 
-# One line of MCS text: the pairs given, and their sum.
-line() {
-    local sum=0 i
-    for ((i = 0; i < ${#1}; i += 2)); do
-        sum=$((sum + 16#${1:i:2}))
-    done
-    printf ':%s%02X\n' "$1" $((-sum & 255))
-}
-
-# The MCS text of bytes in hexadecimal.
-text() {
-    local at pairs
-    for ((at = 0; at < ${#1} / 2; at += 16)); do
-        pairs=${1:at*2:32}
-        printf -v pairs '%02X%04X00%s' $((${#pairs} / 2)) "$at" "$pairs"
-        line "$pairs"
-    done
-    line 00000001
-}
-
 # The bytes of hexadecimal pairs.
 bytes() {
     printf '%b' "$(sed 's/../\\x&/g' <<<"$1")"
+}
+
+# Bytes in hexadecimal, as a file of MCS text.
+text() {
+    bytes "$1" | "$tool" mcs -b - -o "$2" >/dev/null
 }
 
 # Puts bytes in hexadecimal into a chip's file.
@@ -83,9 +68,9 @@ make_images() {
     golden=$(sed -n 's/^:......00\(.*\)..$/\1/p' samples/label.mcs | tr -d '\n')
     short=AA995566300080010000000D
     pages=AA9955663000407F$(printf '%08X' {1..127})300080010000000D
-    text "$short" >"$work/short.mcs"
-    text "$pages" >"$work/pages.mcs"
-    text "$(printf 'FF%.0s' {1..16385})" >"$work/long.mcs"
+    text "$short" "$work/short.mcs"
+    text "$pages" "$work/pages.mcs"
+    text "$(printf 'FF%.0s' {1..16385})" "$work/long.mcs"
     erased 32768 >"$work/empty.chip"
     cp "$work/empty.chip" "$work/golden.chip"
     put "$work/golden.chip" 4096 3002000100004000300080010000000F20000000
