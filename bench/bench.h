@@ -54,6 +54,31 @@ uint8_t *load(const char *path, size_t *length);
 void unload(uint8_t *bytes, size_t length);
 void store(const char *path, const uint8_t *bytes, size_t length);
 
+/* ---- MCS text ---- */
+
+/* A random image of 16 MiB, and its text. */
+typedef struct {
+    uint8_t *image, *text;
+    size_t length; /* of the text */
+} Made;
+
+Made make_text(void);
+void free_text(Made made);
+
+/* ---- Programs ---- */
+
+/* A program's run: its command, the file that comes out, and whether that is the one that it must be. */
+typedef struct {
+    char **command;
+    const char *out;
+    int (*is_right)(const Made *made, const uint8_t *file, size_t length);
+    const Made *made;
+} Process;
+
+/* A job, and its answer: a file that is not right ends the program. */
+int run_process(void *context);
+Answer process_answer(void *context);
+
 /* ---- Inputs ---- */
 
 /* An image or a chip of `length` bytes that loads: one type 2 packet of random words, then DESYNC. */
@@ -78,13 +103,17 @@ size_t make_compressed_bitstream(uint8_t *image); /* thousands of packets of FAR
 
 /* ---- The rows ---- */
 
-/* Beside other programs, and memmem. Files are made in `directory`, and `self` runs this program again. */
+/* Beside other programs, memmem, and our own reader. Files are made in `directory`, and `self` runs this program again. */
 void mcs_file_rows(const char *directory, char *self);
+void mcs_write_file_rows(const char *directory, char *self);
+void mcs_reader_row(void);
 void search_rows(void);
 int mcs_read_file(const char *in, const char *out);
+int mcs_write_file(const char *in, const char *out);
 
 /* Beside the reference. */
 void mcs_call_rows(void);
+void mcs_write_rows(void);
 void boot_rows(void);
 void image_rows(char *const *bitstreams, int count);
 void list_rows(void);

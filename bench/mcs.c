@@ -2,106 +2,36 @@
  * its own; and the calls alone, from memory to memory, beside the reference. */
 #include "bench.h"
 
-#include <spawn.h>
 #include <stdio.h>
 #include <stdlib.h>
 #include <string.h>
-#include <sys/wait.h>
 #include <unistd.h>
 
 #include "../include/tealsettle.h"
 #include "../reference/reference.h"
 
-enum { PER_RECORD = 16, SEGMENT = 65536, PATH = 4096 };
+enum { PATH = 4096 };
 
-extern char **environ;
-
-static uint8_t *put_pairs(uint8_t *at, const uint8_t *pairs, unsigned count)
+Made make_text(void)
 {
-    static const char digits[] = "0123456789ABCDEF";
-    for (unsigned i = 0; i < count; i++) {
-        *at++ = (uint8_t)digits[pairs[i] / 16];
-        *at++ = (uint8_t)digits[pairs[i] % 16];
-    }
-    return at;
-}
-
-static uint8_t *put_record(uint8_t *at, unsigned address, unsigned type, const uint8_t *data, unsigned count)
-{
-    uint8_t pairs[4 + 255 + 1] = {(uint8_t)count, (uint8_t)(address >> 8), (uint8_t)address, (uint8_t)type};
-    unsigned sum = 0;
-    memcpy(pairs + 4, data, count);
-    for (unsigned i = 0; i < count + 4; i++)
-        sum += pairs[i];
-    pairs[count + 4] = (uint8_t)(0 - sum);
-    *at++ = ':';
-    at = put_pairs(at, pairs, count + 5);
-    *at++ = '\n';
-    return at;
-}
-
-/* A random image of 16 MiB, its text, and how long that is. */
-typedef struct {
-    uint8_t *image, *text;
-    size_t length;
-} Made;
-
-static Made make_text(void)
-{
-    Made m = {.image = buffer(MIB16), .text = buffer(3 * MIB16)};
-    uint8_t *at = m.text;
+    size_t length = tealsettle_mcs_length(MIB16).length;
+    Made m = {.image = buffer(MIB16), .text = buffer(length)};
     fill_random(m.image, MIB16);
-    for (size_t i = 0; i < MIB16; i += PER_RECORD) {
-        uint8_t half[2] = {(uint8_t)(i >> 24), (uint8_t)(i >> 16)};
-        if (i % SEGMENT == 0)
-            at = put_record(at, 0, 4, half, 2);
-        at = put_record(at, (unsigned)(i % SEGMENT), 0, m.image + i, PER_RECORD);
-    }
-    at = put_record(at, 0, 1, m.image, 0);
-    m.length = (size_t)(at - m.text);
+    m.length = tealsettle_mcs_write(m.image, MIB16, m.text, length).length;
     return m;
+}
+
+void free_text(Made made)
+{
+    free(made.image);
+    free(made.text);
 }
 
 /* ---- File to file ---- */
 
-/* One tool's run: its command, where its image comes out, and the image that it must be. */
-typedef struct {
-    char **command;
-    const char *out;
-    const uint8_t *image;
-} Process;
-
-static int run_process(void *context)
+static int is_image(const Made *made, const uint8_t *file, size_t length)
 {
-    Process *p = context;
-    pid_t pid;
-    int status;
-    if (posix_spawnp(&pid, p->command[0], NULL, NULL, p->command, environ) != 0)
-        return 0;
-    if (waitpid(pid, &status, 0) < 0 || !WIFEXITED(status))
-        fail(p->command[0]);
-    if (WEXITSTATUS(status) == 127) /* where a spawn cannot say so itself */
-        return 0;
-    if (WEXITSTATUS(status) != 0) {
-        printf("%s ended with %d\n", p->command[0], WEXITSTATUS(status));
-        exit(1);
-    }
-    return 1;
-}
-
-/* The file that came out, which must be the image. */
-static Answer process_answer(void *context)
-{
-    Process *p = context;
-    size_t length;
-    uint8_t *bytes = load(p->out, &length);
-    size_t same = length == MIB16 && memcmp(bytes, p->image, MIB16) == 0;
-    unload(bytes, length);
-    if (!same) {
-        printf("%s gave another image\n", p->command[0]);
-        exit(1);
-    }
-    return (Answer){{"length", "image is the one given"}, {length, same}};
+    return length == MIB16 && memcmp(file, made->image, MIB16) == 0;
 }
 
 int mcs_read_file(const char *in, const char *out_path)
@@ -131,15 +61,15 @@ void mcs_file_rows(const char *directory, char *self)
     char *ours_command[] = {self, "read", in, ours_out, NULL};
     char *objcopy_command[] = {"objcopy", "-I", "ihex", "-O", "binary", in, peer_out, NULL};
     char *srec_cat_command[] = {"srec_cat", in, "-Intel", "-o", peer_out, "-Binary", NULL};
-    Process ours = {ours_command, ours_out, made.image}, objcopy = {objcopy_command, peer_out, made.image},
-            srec_cat = {srec_cat_command, peer_out, made.image};
+    Process ours = {ours_command, ours_out, is_image, &made}, objcopy = {objcopy_command, peer_out, is_image, &made},
+            srec_cat = {srec_cat_command, peer_out, is_image, &made};
     Row row = {"MCS text to image, file to file", made.length, {"tealsettle", run_process, process_answer, &ours},
                {"objcopy", run_process, process_answer, &objcopy}};
     table_row(&row);
     unlink(peer_out);
     row.peer = (Side){"srec_cat", run_process, process_answer, &srec_cat};
     table_row(&row);
-    free(made.image), free(made.text);
+    free_text(made);
 }
 
 /* ---- The call alone ---- */
@@ -207,5 +137,6 @@ void mcs_call_rows(void)
     row.ours = (Side){"tealsettle", ours_form, form_answer, &ours};
     row.peer = (Side){PLAIN_C, reference_form, form_answer, &peer};
     table_row(&row);
-    free(made.image), free(made.text), free(ours.out), free(peer.out);
+    free(ours.out), free(peer.out);
+    free_text(made);
 }
