@@ -49,8 +49,9 @@ uint64_t next_random(void);
 size_t below(size_t n);
 void fill_random(uint8_t *bytes, size_t length);
 
-/* Whole files. */
+/* Whole files. The bytes of a new file are written where they stand, and `unload` ends that too. */
 uint8_t *load(const char *path, size_t *length);
+uint8_t *new_file(const char *path, size_t length);
 void unload(uint8_t *bytes, size_t length);
 void store(const char *path, const uint8_t *bytes, size_t length);
 

@@ -33,3 +33,15 @@ void store(const char *path, const uint8_t *bytes, size_t length)
     if (!f || fwrite(bytes, 1, length, f) != length || fclose(f) != 0)
         fail(path);
 }
+
+uint8_t *new_file(const char *path, size_t length)
+{
+    int fd = open(path, O_RDWR | O_CREAT | O_TRUNC, 0666);
+    if (fd < 0 || ftruncate(fd, (off_t)length) != 0)
+        fail(path);
+    uint8_t *bytes = mmap(NULL, length, PROT_READ | PROT_WRITE, MAP_SHARED, fd, 0);
+    if (bytes == MAP_FAILED)
+        fail(path);
+    close(fd);
+    return bytes;
+}

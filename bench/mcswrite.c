@@ -51,21 +51,20 @@ static int has_data(const Made *made, const uint8_t *file, size_t length)
     return next == MIB16;
 }
 
+/* The text's length is known before it is written: so it goes straight into its file, and is copied nowhere. */
 int mcs_write_file(const char *in, const char *out_path)
 {
     size_t length;
     uint8_t *image = load(in, &length);
-    size_t room = tealsettle_mcs_length(length).length;
-    uint8_t *out = malloc(room + 1);
-    if (!out)
-        fail("malloc");
-    TealsettleText text = tealsettle_mcs_write(image, length, out, room);
-    if (text.number != 0) {
-        fprintf(stderr, "refused %u at %zu\n", text.number, text.place);
-        return 1;
+    TealsettleText text = tealsettle_mcs_length(length);
+    if (text.number == 0) {
+        uint8_t *out = new_file(out_path, text.length);
+        text = tealsettle_mcs_write(image, length, out, text.length);
+        unload(out, text.length);
     }
-    store(out_path, out, text.length);
-    return 0;
+    if (text.number != 0)
+        fprintf(stderr, "refused %u at %zu\n", text.number, text.place);
+    return text.number != 0;
 }
 
 void mcs_write_file_rows(const char *directory, char *self)

@@ -23,10 +23,16 @@ use Rattle.outcomes.proofs.Laws.{program-computed, erase-computed}
 use Rattle.orders.specs.Table.{byPhase, count, countBefore as runBefore}
 use Rattle.orders.specs.Orders.{inPhase, ordersBefore}
 use Rattle.starts.specs.Starts.{totalNumbers, totalAnswer}
-use Rattle.digits.specs.Digit.{digits, byteSum, placeIn, digitOf}
+use Rattle.digits.specs.Digit.{digits, hex, byteSum, placeIn, digitOf}
+use Rattle.mcsline.specs.Record.{endingText, lineText, bodyOf, checksum, pairsOf, recordText}
 use Rattle.mcsline.specs.Line.{isEnding, onto, bySpelled, spelledBy, lineSpells, byType, typed, parsed, byParsed}
 use Rattle.mcs.specs.Reading.{prepend, linesOf, follows, isEmpty, readLines}
 use Rattle.mcs.specs.Reader.{readNumbers, answerOf, heldOutput}
+use Rattle.mcs.specs.Text.{fileText}
+use Rattle.canonical.specs.Canonical.{writable, upperLines, linesFrom, shorterLength}
+use Rattle.canonical.specs.Test.{isTextOf, sameText}
+use Rattle.fields.specs.Fields.{ascii}
+use Rattle.mcswriter.specs.Mcswriter.{textNumbers, lengthAnswer, writeAnswer, writeOutput}
 use Rattle.cases.specs.Cases.{Holds, All, has, most, jumping, register15, ended15, rows}
 
 -- The image with most writes: what the image check says of it is a theorem, so the image is not written out.
@@ -40,7 +46,7 @@ abbrev _also_ : {A B : Type 0} → A → B → A × B
 row also rows = (row, rows)
 
 table : All rows
-unfolding All rows imageNumbers readNumbers layoutNumbers switchNumbers totalNumbers answerOf heldOutput frontFilled readLines byParsed follows parsed bySpelled typed byType lineSpells spelledBy onto isEnding isEmpty linesOf prepend digitOf placeIn digits byteSum imageAnswer imageLengthAllowed aloneCase ask readAt searchFrom jump find beginsWith words trace finish afterHeader modeOf headOf type1Of type2Of registerOk effectOf layoutAnswer askLayout chipLengthAllowed updatePlaceAllowed updateLengthAllowed switchAnswer switchCase totalAnswer runBefore count byPhase ordersBefore inPhase onesIn mostNumbers mostAnswer heaviestLengthAllowed mostIn
+unfolding All rows imageNumbers readNumbers layoutNumbers switchNumbers totalNumbers answerOf heldOutput frontFilled readLines byParsed follows parsed bySpelled typed byType lineSpells spelledBy onto isEnding isEmpty linesOf prepend digitOf placeIn digits byteSum imageAnswer imageLengthAllowed aloneCase ask readAt searchFrom jump find beginsWith words trace finish afterHeader modeOf headOf type1Of type2Of registerOk effectOf layoutAnswer askLayout chipLengthAllowed updatePlaceAllowed updateLengthAllowed switchAnswer switchCase totalAnswer runBefore count byPhase ordersBefore inPhase onesIn mostNumbers mostAnswer heaviestLengthAllowed mostIn textNumbers lengthAnswer writeAnswer writeOutput writable upperLines linesFrom shorterLength fileText recordText lineText endingText pairsOf bodyOf checksum hex isTextOf sameText ascii
 table =
     (λ rest h. refl)
     also (λ rest h. refl)
@@ -70,6 +76,29 @@ table =
     also most-row 8204 refl
     also most-row 16777216 refl
     also most-row 15 refl
+    also (λ rest h. refl)
+    also (λ rest h. refl)
+    also (λ rest h. refl)
+    also (λ rest h. refl)
+    also (λ rest h. refl)
+    also (λ rest h. refl)
+    also (λ rest h. refl)
+    also (λ rest h. refl)
+    also (λ rest h. refl)
+    also (λ rest h. refl)
+    also (λ rest h. refl)
+    also (λ rest h. refl)
+    also (λ rest h. refl)
+    also (λ rest h. refl)
+    also (λ rest h. refl)
+    also (λ rest h. refl)
+    also (λ rest h. refl)
+    also (λ rest h. refl)
+    also (λ rest h. refl)
+    also (λ rest h. refl)
+    also (λ rest h. refl)
+    also (λ rest h. refl)
+    also (λ rest h. refl)
     also (λ rest h. refl)
     also (λ rest h. refl)
     also tt

@@ -1,6 +1,8 @@
 -- Document 01's starred proof cases, and cases of document 02's requests: the rows of one table, under one proposition.
 use Prim.Native.Nat.{ℕ, _+_, _/_, _%_, _≤_}
+use Prim.Native.String.{String}
 use mathlib.Core.Path.{_≡_}
+use mathlib.Core.Bool.{Bool, true, false}
 use mathlib.Core.List.{List, [], _∷_, _++_}
 use lib.ListN.{length, take, replicate}
 use Rattle.base.specs.Answer.{Numbered, result, refusal, value}
@@ -14,6 +16,9 @@ use Rattle.outcomes.specs.Outcomes.{programCounts, eraseCounts}
 use Rattle.orders.specs.Orders.{orders as runOrders}
 use Rattle.starts.specs.Starts.{totalNumbers, totalAnswer}
 use Rattle.mcs.specs.Reader.{readNumbers, readAnswer, readOutput}
+use Rattle.canonical.specs.Test.{isCanonical}
+use Rattle.fields.specs.Fields.{ascii}
+use Rattle.mcswriter.specs.Mcswriter.{textNumbers, lengthAnswer, writeAnswer, writeOutput}
 
 -- What the paper says of a case: an answer in its numbers, and what is beside it: the bytes of an image that a text holds, how many orders are listed, or what the image check says of the image with most writes.
 abbrev pub Says : Type 0
@@ -43,6 +48,17 @@ orders total listed = (result (total ∷ []), listed ∷ [])
 -- so many writes; and the image is accepted, with its sync word at 0, this end and as many writes
 abbrev pub has : ℕ → ℕ → Says
 has writes end = (result (writes ∷ []), 0 ∷ end ∷ writes ∷ [])
+
+-- a text of so many characters, and one that is written
+abbrev pub takes : ℕ → Says
+takes characters = (result (characters ∷ []), [])
+
+abbrev pub writes : List ℕ → Says
+writes text = (result (length text ∷ []), text)
+
+-- yes or no
+abbrev pub answers : Bool → Says
+answers yes′ = (result (elim yes′ [ true ↦ 1 | false ↦ 0 ] ∷ []), [])
 
 -- an answer with nothing beside it
 abbrev pub alone : Numbered → Says
@@ -101,6 +117,16 @@ most n expected = record { asks = λ rest. (mostNumbers (mostAnswer n), imageNum
 abbrev pub noMost : ℕ → Says → Row
 noMost n expected = record { asks = λ rest. alone (mostNumbers (mostAnswer n)); room = 0; says = expected }
 
+-- an image written into a buffer of so many bytes; how long the text of n bytes is; and whether a text is in the canonical form
+abbrev pub write : List ℕ → ℕ → Says → Row
+write bytes room expected = record { asks = λ rest. textSays (textNumbers (writeAnswer bytes room)) (writeOutput bytes (replicate room 0)); room = 0; says = expected }
+
+abbrev pub textOf : ℕ → Says → Row
+textOf n expected = record { asks = λ rest. alone (textNumbers (lengthAnswer n)); room = 0; says = expected }
+
+abbrev pub canonical : List ℕ → Bool → Row
+canonical text expected = record { asks = λ rest. answers (isCanonical text); room = 0; says = answers expected }
+
 -- an image of n bytes and A, on a chip of 32,768 bytes with its update area at 12,288
 abbrev pub run : ℕ → ℕ → Says → Row
 run n updateLength expected = record {
@@ -126,6 +152,19 @@ register15 count = 0xAA ∷ 0x99 ∷ 0x55 ∷ 0x66 ∷ 0x30 ∷ 0x01 ∷ (0xE0 +
 -- AA995566 30008001 0000000D 3001E001
 abbrev pub ended15 : List ℕ
 ended15 = 0xAA ∷ 0x99 ∷ 0x55 ∷ 0x66 ∷ 0x30 ∷ 0x00 ∷ 0x80 ∷ 0x01 ∷ 0x00 ∷ 0x00 ∷ 0x00 ∷ 0x0D ∷ 0x30 ∷ 0x01 ∷ 0xE0 ∷ 0x01 ∷ []
+
+-- Lines that end in LF: any, those of the upper half 0000, of one byte AB at 0, and of the end record.
+abbrev pub line : String → List ℕ
+line characters = ascii characters ++ 0x0A ∷ []
+
+abbrev pub upperLine : List ℕ
+upperLine = line ":020000040000FA"
+
+abbrev pub byteLine : List ℕ
+byteLine = line ":01000000AB54"
+
+abbrev pub endLine : List ℕ
+endLine = line ":00000001FF"
 
 unfoldable pub rows : List Row
 rows =
@@ -183,4 +222,32 @@ rows =
     -- a byte less or more: 29
     ∷ noMost 11 (refuses 29 0)
     ∷ noMost 16777217 (refuses 29 0)
+    -- document 02, M-100: one byte; a room one byte short: 19; no bytes: 4
+    ∷ write (0xAB ∷ []) 42 (writes (upperLine ++ (byteLine ++ endLine)))
+    ∷ write (0xAB ∷ []) 41 (refuses 19 0)
+    ∷ write [] 42 (refuses 4 0)
+    -- 16 bytes are one record and no empty one, 17 are two
+    ∷ write (replicate 16 0) 100 (writes (upperLine ++ (line ":1000000000000000000000000000000000000000F0" ++ endLine)))
+    ∷ write (replicate 17 0) 100 (writes (upperLine ++ (line ":1000000000000000000000000000000000000000F0" ++ (line ":0100100000EF" ++ endLine))))
+    -- how long the text is: 65,536 bytes have one type 04 record, 65,537 two
+    ∷ textOf 15 (takes 70)
+    ∷ textOf 16 (takes 72)
+    ∷ textOf 17 (takes 86)
+    ∷ textOf 65535 (takes 180250)
+    ∷ textOf 65536 (takes 180252)
+    ∷ textOf 65537 (takes 180282)
+    ∷ textOf 131072 (takes 360492)
+    ∷ textOf 16777216 (takes 46141452)
+    ∷ textOf 16777217 (refuses 4 0)
+    -- the form: as it is written
+    ∷ canonical (upperLine ++ (byteLine ++ endLine)) true
+    -- no: CR LF, a needless type 04, a trailing one, a missing first one, a short record in the middle, a record of 17 bytes, lower case, no bytes
+    ∷ canonical (upperLine ++ (ascii ":01000000AB54" ++ 0x0D ∷ 0x0A ∷ endLine)) false
+    ∷ canonical (upperLine ++ (upperLine ++ (byteLine ++ endLine))) false
+    ∷ canonical (upperLine ++ (byteLine ++ (upperLine ++ endLine))) false
+    ∷ canonical (byteLine ++ endLine) false
+    ∷ canonical (upperLine ++ (byteLine ++ (line ":01000100AC52" ++ endLine))) false
+    ∷ canonical (upperLine ++ (line ":110000000000000000000000000000000000000000EF" ++ endLine)) false
+    ∷ canonical (upperLine ++ (line ":01000000ab54" ++ endLine)) false
+    ∷ canonical endLine false
     ∷ []

@@ -33,8 +33,8 @@ fn sum_of(kind: u8, address: usize, bytes: &[u8], from: usize, count: usize) -> 
     requires { ⌜ (from + count ≤ length (now bytes)) × (address < 65536) × (count ≤ 255) ⌝ }
     ensures { λ r. ⌜ r ≡ checksum (body kind address (take count (drop from (now (bytes .entry))))) ⌝ }
 {
-    let before = count + address / 256 + address % 256 + kind as usize;
-    let total = before + byte_sum(bytes, from, count) as usize;
+    let header = (count + address / 256 + address % 256) as u32 + kind as u32;
+    let total = header + byte_sum(bytes, from, count);
     ((256 - total % 256) % 256) as u8
 }
 

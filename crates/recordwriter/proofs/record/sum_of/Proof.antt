@@ -11,20 +11,20 @@ use Rattle.recordwriter.proofs.LineLaws.{span-long}
 use Rattle.recordwriter.proofs.record.sum_of.Statement.{statement}
 use Rattle.recordwriter.proofs.record.sum_of.Tie as tie
 
-add-before : tie.Need-add-before
-add-before c = search needs
+add-header : tie.Need-add-header
+add-header c = search needs
 
-add-before-2 : tie.Need-add-before-2
-add-before-2 c = search needs
+add-header-2 : tie.Need-add-header-2
+add-header-2 c = search needs
 
-add-before-3 : tie.Need-add-before-3
-add-before-3 c = search needs
+cast-header : tie.Need-cast-header
+cast-header c = search needs
+
+add-header-3 : tie.Need-add-header-3
+add-header-3 c = search needs
 
 byte-sum-requires : tie.Need-byte-sum-requires
 byte-sum-requires c κs = search needs
-
-cast-total : tie.Need-cast-total
-cast-total c = search needs
 
 add-total : tie.Need-add-total
 add-total c = search needs
@@ -40,20 +40,20 @@ unfolding checksum byteSum
 returns c =
     let args = c .before .before .args in
     let bytes = take (args .count) (drop (args .from) (args .bytes .now)) in
-    let before = args .count + args .address / 256 + args .address % 256 + args .kind in
+    let header = args .count + args .address / 256 + args .address % 256 + args .kind in
     let long = span-long (args .bytes .now) (args .from) (args .count) (omega arith) in
-    let total : before + c .byte-sum .result ≡ byteSum (body (args .kind) (args .address) bytes) = omega arith in
+    let total : header + c .byte-sum .result ≡ byteSum (body (args .kind) (args .address) bytes) = omega arith in
     ap (λ (n : ℕ). (256 - n % 256) % 256) total
 
 pub sum-of-spec : {M : Type 1} → statement M
 sum-of-spec =
     tie.close
     (tie.spec
-    add-before
-    add-before-2
-    add-before-3
+    add-header
+    add-header-2
+    cast-header
+    add-header-3
     byte-sum-requires
-    cast-total
     add-total
     sub-result
     cast-result
