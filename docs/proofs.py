@@ -32,7 +32,7 @@ INTERNAL = (
     'base', 'framing', 'packets', 'scanner', 'fastpath', 'writes::reading', 'writes::next', 'writes::cursor::Cursor::new',
     'writes::cursor::nth_from', 'configreader', 'digits', 'mcsline', 'comparison', 'orders',
     'updater::state::current_operation', 'updater::state::current_bytes', 'updater::state::after_order', 'effects',
-    'fields', 'reportlines', 'loadlines', 'results', 'fileresults', 'runresults')
+    'fields', 'pairwriter', 'recordwriter', 'reportlines', 'loadlines', 'results', 'fileresults', 'runresults', 'hosttexts::result')
 
 # Parts of the program that runs the cases. No promise rests on them: they print, and are proved to be safe and to end.
 PROGRAM_PARTS = ('caselines', 'caseasks', 'caseanswers', 'chipcases', 'runcases', 'lentcases')
