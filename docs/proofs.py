@@ -10,7 +10,7 @@ CONTRACTS.md is wholly made. In PROOFS.md a definition stands between `<!-- defi
 Checked: both pages are what they would be now, and no page is too long; every public function of a library has an
 `ensures`, and every public call no `requires` and two must-fail edits; every theorem that is stated in specs/ has a proof
 of that type among the laws of its crate; every [`name`](file) names something that the
-file declares, every edit named in PROOFS.md exists, and every relative link of README.md and docs/*.md leads to a
+file declares, every edit named in PROOFS.md or REQUESTS.md exists, and every relative link of README.md and docs/*.md leads to a
 file or a heading; and `specs/` mirrors `src/`: where a module's contracts cite definitions of its own crate there is a
 file of definitions of its name.
 """
@@ -23,6 +23,7 @@ from typing import NamedTuple
 
 ROOT = Path(__file__).resolve().parent.parent
 README, PROOFS, CONTRACTS = ROOT / 'README.md', ROOT / 'docs' / 'PROOFS.md', ROOT / 'docs' / 'CONTRACTS.md'
+REQUESTS = ROOT / 'docs' / 'REQUESTS.md'
 LONGEST = {README: 130, PROOFS: 500}
 WIDTH = 110
 
@@ -32,7 +33,8 @@ INTERNAL = (
     'base', 'framing', 'packets', 'scanner', 'fastpath', 'writes::reading', 'writes::next', 'writes::cursor::Cursor::new',
     'writes::cursor::nth_from', 'configreader', 'digits', 'mcsline', 'comparison', 'orders',
     'updater::state::current_operation', 'updater::state::current_bytes', 'updater::state::after_order', 'effects',
-    'fields', 'pairwriter', 'recordwriter', 'reportlines', 'loadlines', 'results', 'fileresults', 'runresults', 'hosttexts::result')
+    'fields', 'pairwriter', 'recordwriter', 'reportlines', 'loadlines', 'results', 'fileresults', 'runresults',
+    'hosttexts::result')
 
 # Parts of the program that runs the cases. No promise rests on them: they print, and are proved to be safe and to end.
 PROGRAM_PARTS = ('caselines', 'caseasks', 'caseanswers', 'chipcases', 'runcases', 'lentcases')
@@ -75,9 +77,9 @@ that the prover refuses because of it. None asks anything of its caller. In a co
 the result and `output` about the bytes lent to be written. `Gives numbers r defined`: `r` is the answer defined, and
 its number and values, which `numbers` has for each of its cases, are the defined ones. A slice is shorter than 2^63
 bytes: so it is by its type, and a C host must keep to it. [PROOFS.md](PROOFS.md) goes through the demands,
-[REFUSALS.md](REFUSALS.md) has the numbers of refusals, and [include/tealsettle.h](../include/tealsettle.h) the
-functions for C. Functions of the crates between these are for the crates above them and no calls
-(`INTERNAL` in [proofs.py](proofs.py)).
+[REQUESTS.md](REQUESTS.md) through the requests, [REFUSALS.md](REFUSALS.md) has the numbers of refusals, and
+[include/tealsettle.h](../include/tealsettle.h) the functions for C. Functions of the crates between these are for the
+crates above them and no calls (`INTERNAL` in [proofs.py](proofs.py)).
 """
 
 
@@ -484,9 +486,9 @@ def check_links(page):
     return [f'{shown(page)}: the link to {target} leads nowhere' for target in dict.fromkeys(lost)]
 
 
-def check_edit_names(edits):
-    named = sorted(set(EDIT_NAME.findall(read(PROOFS))))
-    return [f'{shown(PROOFS)}: there is no edit {label}' for label in named if label not in edits]
+def check_edit_names(page, edits):
+    named = sorted(set(EDIT_NAME.findall(read(page))))
+    return [f'{shown(page)}: there is no edit {label}' for label in named if label not in edits]
 
 
 def check_pages(pages):
@@ -508,7 +510,8 @@ def main():
     written = [README, *sorted((ROOT / 'docs').glob('*.md'))]
     problems = [
         *check_pages(made), *check_blocks(), *check_lengths(), *check_contracts(), *check_edits(calls, edits),
-        *check_shown(calls, edits), *check_theorems(theorems), *check_mirror(), *check_edit_names(edits), *joined(map(check_names, written)),
+        *check_shown(calls, edits), *check_theorems(theorems), *check_mirror(),
+        *joined(check_edit_names(page, edits) for page in (PROOFS, REQUESTS)), *joined(map(check_names, written)),
         *joined(map(check_links, written))]
     names = set().union(*map(names_on, written))
     print(*problems, sep='\n', end='\n' if problems else '')

@@ -53,11 +53,19 @@ int read_packed_image(const char *name, File *image)
     return image_of_form(&file, &form, image);
 }
 
-/* Whether a colon is the first character, also after a byte order mark. So begins a text that is told as plain bytes, for a
- * byte above 7F by which it is damaged, or which is in that mark. */
+/* How a text begins that is told as plain bytes, for a byte above 7F by which it is damaged, or which is in its byte order mark:
+ * with a colon, also after that mark in UTF-8 or UTF-16. */
+static const struct {
+    const char *bytes;
+    size_t length;
+} beginnings[] = {{":", 1}, {"\xEF\xBB\xBF:", 4}, {"\xFF\xFE:\0", 4}, {"\xFE\xFF\0:", 4}};
+
 static bool begins_as_text(const File *file)
 {
-    return memchr(file->bytes, ':', file->length < 4 ? file->length : 4);
+    for (size_t i = 0; i < sizeof beginnings / sizeof beginnings[0]; i++)
+        if (file->length >= beginnings[i].length && memcmp(file->bytes, beginnings[i].bytes, beginnings[i].length) == 0)
+            return true;
+    return false;
 }
 
 /* An empty file is an empty image: it is refused for its length, not as a text without an end. */

@@ -23,8 +23,8 @@ const Command mcs_command = {
     .usage = "[-b] IMAGE [-o FILE]",
     .purpose = "An image as MCS text, in the one form that each image has",
     .help = "IMAGE is MCS text, a BIT file or the image itself, told by its bytes; - is standard input. The image need not be one\n"
-            "that loads: any 1 to 16777216 bytes are taken. A file that has no byte above 7F, or a colon among its first four, is\n"
-            "read as MCS text: so a text that is damaged, or has a byte order mark, is refused and not taken for an image.\n"
+            "that loads: any 1 to 16777216 bytes are taken. A file that has no byte above 7F is read as MCS text, and so is one that\n"
+            "begins with a colon, also after a byte order mark: so a damaged text is refused, and not taken for an image.\n"
             "\n"
             "  -b       the bytes of IMAGE are the image, whatever they look like\n"
             "  -o FILE  where the text goes, a file whole or not at all; without it the text goes to standard output\n"
