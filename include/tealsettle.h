@@ -8,8 +8,8 @@
  * `number` does not say whether a chip loads: a chip that is stuck is an answer, with number 0 and `stuck` 1.
  * tealsettle_loads says it.
  *
- * Every proved function takes numbers and byte slices (a pointer, then a length) and returns a plain struct. None asks
- * anything of its numbers and bytes: every input gets an answer or a numbered refusal. Not proved is the little that is plain
+ * Every proved function takes numbers and byte slices (a pointer, then a length) and returns a plain struct; only
+ * tealsettle_mcs_form returns a number, 1 or 0. None asks anything of its numbers and bytes: every input gets an answer or a numbered refusal. Not proved is the little that is plain
  * C: the inline functions below, which only hand on what they are given, tealsettle_version, and tealsettle_update, which is
  * a loop over the proved calls (library/update.c).
  *
@@ -125,7 +125,7 @@ static inline const char *tealsettle_refusal_words(uint32_t number)
     case TEALSETTLE_REFUSED_BAD_UPDATE_LENGTH:
         return "the update area's length is 0 or not a multiple of 4,096, or the area ends after the chip";
     case TEALSETTLE_REFUSED_BAD_IMAGE_LENGTH:
-        return "the image is empty, or longer than its area (checked by itself: than 16,777,216 bytes)";
+        return "the image is empty, or longer than its area (where there is none: than 16,777,216 bytes)";
     case TEALSETTLE_REFUSED_IMAGE_FAULT:
         return "the image cannot be loaded by itself: it has a faulty word, or its bytes run out";
     case TEALSETTLE_REFUSED_IMAGE_JUMPS:
@@ -216,14 +216,15 @@ TEALSETTLE_MUST_USE
 TealsettleText tealsettle_mcs_length(size_t image_length);
 
 /* Writes an image as MCS text to the front of `out`. Bytes of `out` after the text stay as they were. For each image there is one
- * such text: records of 16 bytes, the last one shorter; before the data at each multiple of 65,536, the first at 0, a record of
- * type 04; the end record; capital digits, and LF after each record. tealsettle_mcs_read gives the image back. Any bytes are an
- * image here: whether they load is what tealsettle_image_check says. */
+ * such text: records of 16 bytes, the last of which may be shorter; before the data at each multiple of 65,536, the first at 0, a
+ * record of type 04; the end record; capital digits, and LF after each record. tealsettle_mcs_read gives the image back. Ask
+ * tealsettle_mcs_length first, and lend so many bytes. Any bytes are an image here: whether they load is what
+ * tealsettle_image_check says. */
 TEALSETTLE_MUST_USE
 TealsettleText tealsettle_mcs_write(const uint8_t *image, size_t image_length, uint8_t *out, size_t out_length);
 
 /* Whether a text is one that tealsettle_mcs_write gives for some image: 1; or 0, for all other bytes, also where they are MCS
- * text in another form. */
+ * text in another form. tealsettle_mcs_read says whether they are MCS text at all. */
 TEALSETTLE_MUST_USE
 uint32_t tealsettle_mcs_form(const uint8_t *text, size_t text_length);
 

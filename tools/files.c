@@ -207,7 +207,7 @@ void check_not_read(const char *input, const char *output)
     struct stat read, written;
     if (describe(input, STDIN_FILENO, &read) && describe(output, STDOUT_FILENO, &written) && S_ISREG(read.st_mode) &&
         is_same_file(&read, &written))
-        trouble(output, "is the file that is read: give another name");
+        trouble(strcmp(output, "-") == 0 ? "standard output" : output, "is the file that is read: give another name");
 }
 
 /* A name at which nothing is. */

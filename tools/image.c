@@ -16,7 +16,7 @@ const Command image_command = {
     .usage = "TEXT -o FILE",
     .purpose = "The bytes of MCS text, or of the image in a BIT file",
     .help = "TEXT is told by its bytes, and - is standard input. The image need not be one that loads: that is what\n"
-            "`tealsettle check` says.\n"
+            "`tealsettle check` says. `tealsettle mcs` goes the other way.\n"
             "\n"
             "  -o FILE  where the bytes go, a file whole or not at all; - is standard output, which must not be a terminal\n"
             "\n"

@@ -53,19 +53,35 @@ int read_packed_image(const char *name, File *image)
     return image_of_form(&file, &form, image);
 }
 
-/* How a text begins that is told as plain bytes, for a byte above 7F by which it is damaged, or which is in its byte order mark:
- * with a colon, also after that mark in UTF-8 or UTF-16. */
-static const struct {
-    const char *bytes;
-    size_t length;
-} beginnings[] = {{":", 1}, {"\xEF\xBB\xBF:", 4}, {"\xFF\xFE:\0", 4}, {"\xFE\xFF\0:", 4}};
+/* The length of the byte order mark that a file begins with, of UTF-8 (3) or of UTF-16 (2); 0 for none. */
+static size_t mark_length(const File *file)
+{
+    if (file->length >= 3 && memcmp(file->bytes, "\xEF\xBB\xBF", 3) == 0)
+        return 3;
+    bool wide = file->length >= 2 && (memcmp(file->bytes, "\xFF\xFE", 2) == 0 || memcmp(file->bytes, "\xFE\xFF", 2) == 0);
+    return wide ? 2 : 0;
+}
 
+/* Whether a file begins as a text does: with a colon, also after a byte order mark or blanks. So does a text that is told as
+ * plain bytes for that mark, or for another byte above 7F by which it is damaged. */
 static bool begins_as_text(const File *file)
 {
-    for (size_t i = 0; i < sizeof beginnings / sizeof beginnings[0]; i++)
-        if (file->length >= beginnings[i].length && memcmp(file->bytes, beginnings[i].bytes, beginnings[i].length) == 0)
-            return true;
-    return false;
+    static const char blanks[] = " \t\r\n"; /* and a zero: in UTF-16 each of these characters has one beside it */
+    size_t mark = mark_length(file), kinds = sizeof blanks - (mark != 2), at = mark;
+    while (at < file->length && memchr(blanks, file->bytes[at], kinds))
+        at++;
+    return at < file->length && file->bytes[at] == ':';
+}
+
+/* Says how an image is taken that was read as a text: of a text that is just wrong there is no more to say. */
+static void hint_at_plain(const File *file, bool told_as_text, bool begins)
+{
+    if (told_as_text && !begins)
+        fprintf(stderr, "tealsettle: %s: it was read as text, as it has no byte above 7F: if it is the image itself, give -b\n",
+                file->name);
+    if (!told_as_text)
+        fprintf(stderr, "tealsettle: %s: it was read as text, as it begins with a colon: give -b only if it is the image itself\n",
+                file->name);
 }
 
 /* An empty file is an empty image: it is refused for its length, not as a text without an end. */
@@ -73,15 +89,14 @@ int read_any_image(const char *name, bool plain, File *image)
 {
     File file = read_image_file(name);
     TealsettleForm form = tealsettle_file_form(file.bytes, file.length);
-    bool as_text = begins_as_text(&file);
+    bool told_as_text = form.form == TEALSETTLE_TEXT, begins = begins_as_text(&file);
     if (plain || file.length == 0)
         form = (TealsettleForm){.form = TEALSETTLE_BINARY};
-    else if (form.form == TEALSETTLE_BINARY && as_text)
+    else if (form.form == TEALSETTLE_BINARY && begins)
         form.form = TEALSETTLE_TEXT;
     int status = image_of_form(&file, &form, image);
-    if (status != DONE && form.form == TEALSETTLE_TEXT && !as_text)
-        fprintf(stderr, "tealsettle: %s: it was read as text, as it has no byte above 7F: if it is the image itself, give -b\n",
-                file.name);
+    if (status != DONE && form.form == TEALSETTLE_TEXT)
+        hint_at_plain(&file, told_as_text, begins);
     return status;
 }
 
@@ -91,7 +106,7 @@ int text_of_image(const File *image, File *text)
     *text = (File){.name = image->name, .bytes = held(malloc(room + 1))};
     TealsettleText answer = tealsettle_mcs_write(image->bytes, image->length, text->bytes, room);
     char why[80];
-    snprintf(why, sizeof why, "it has %zu bytes, and an image has 1 to 16,777,216", image->length);
+    snprintf(why, sizeof why, "it has %zu bytes, and an image has 1 to 16777216", image->length);
     text->length = answer.length;
     return answer.number == 0 ? DONE : refused_because(image->name, answer.number, answer.place, why);
 }

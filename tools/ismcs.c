@@ -39,7 +39,7 @@ static int say_why(const File *text)
 {
     File image, expected;
     if (text->length > LONGEST_FILE)
-        return refused_in_words(text->name, "it is longer than any MCS text of an image");
+        return refused_in_words(text->name, "it is longer than any text in this form");
     int status = image_of_text(text, &image);
     if (status == DONE)
         status = text_of_image(&image, &expected);
@@ -68,7 +68,7 @@ const Command is_mcs_command = {
     .purpose = "Whether a text is in the form in which `tealsettle mcs` writes its image",
     .help = "TEXT may be - for standard input. For each image there is one text in this form: `tealsettle mcs --help` says how it\n"
             "looks. Where the answer is no, it is said why: what is wrong with the text, by line and column; or how many bytes it\n"
-            "holds, where those are none or too many; or else the first line that is another than `tealsettle mcs` would write.\n"
+            "holds, where those are none or too many; or else the first line that differs, and what `tealsettle mcs` writes there.\n"
             "\n"
             "Exit status: 0 it is in this form; 1 it is not; 2 wrong use, or trouble with a file.\n",
     .options = "",

@@ -133,8 +133,8 @@ int read_image(const char *name, File *image);
 /* The same of MCS text or a BIT file. All else is refused as text. */
 int read_packed_image(const char *name, File *image);
 
-/* The same for a command that does not ask whether the image loads. What begins as a text does is then read as one, damaged or
- * not, and an empty file is an empty image. If it is `plain` (-b), the file's bytes are the image, whatever they are. */
+/* The same for a command that does not ask whether the image loads. What begins as a text does, with a colon, is then read as one,
+ * damaged or not, and an empty file is an empty image. If it is `plain` (-b), the file's bytes are the image, whatever they are. */
 int read_any_image(const char *name, bool plain, File *image);
 
 /* The image of MCS text, and the MCS text of an image. DONE; or a refusal, which has been said. */
