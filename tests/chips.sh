@@ -1,4 +1,4 @@
-# What the tests of the example and of the tool share: images and chips, made here from the specification; what must load; what a
+# What the tests of the example and of the tool share: images and chips, made here, their texts by the tool; what must load; what a
 # command says; runs that are stopped, fail, are held, or have odd standard files. A test that takes this in has `test` (its name),
 # `work` (its folder), `chip` (the chip's file) and `tool` (by which the texts of images are written). One with runs also has
 # `progress` (the file of what they say), `runner` (the words of a command that runs an image on a chip, whose flash may fail),

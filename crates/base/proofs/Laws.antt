@@ -5,7 +5,7 @@ use mathlib.Core.Bool.{Bool, true, false, _&&_}
 use mathlib.Core.Logic.{_⊎_, inl, inr}
 use native.Mathlib.Omega.{arith}
 use borrow.Author.Tests.{eqb-true, eqb-false, ltb-true, ltb-false, leb-true, leb-false, le-leb, lt-leb}
-use mathlib.Core.List.{List, _++_}
+use mathlib.Core.List.{List, [], _∷_, _++_}
 use lib.Dec.{eqb, ltb, leb}
 use lib.ListN.{length, drop}
 use Rattle.base.specs.Question.{ask}
@@ -63,6 +63,11 @@ fits-after length place count h = go (leb count (length - place)) refl
     go : (b : Bool) → leb count (length - place) ≡ b → b ≡ leb (place + count) length
     go true e = let l = leb-true count (length - place) e in sym (le-leb (place + count) length (omega arith))
     go false e = let l = leb-false count (length - place) e in sym (lt-leb (place + count) length (omega arith))
+
+-- A list of no length is empty.
+pub nil-of-length : {A : Type 0} (l : List A) → length l ≡ 0 → l ≡ []
+nil-of-length [] h = refl
+nil-of-length (x ∷ l) h = absurd (omega arith)
 
 -- Output that fits is at the front, with the old bytes after it.
 pub front-fits : (output buffer : List ℕ) → length output ≤ length buffer → frontFilled output buffer ≡ output ++ drop (length output) buffer

@@ -6,22 +6,12 @@ use mathlib.Core.Logic.{_⊎_, inl, inr}
 use native.Mathlib.Omega.{arith}
 use lib.ListN.{length, length-append}
 use Rattle.base.proofs.Laws.{below-or-not, equal-or-not}
-use Rattle.digits.specs.Digit.{hex}
-use Rattle.digits.proofs.Laws.{hex-long}
-use Rattle.mcsline.specs.Record.{COLON, Ending, Lf, endingText, lineText, Record, Data, ExtendedLinearAddress, End, bodyOf, checksum, pairsOf, Line, Row, recordText}
+use Rattle.mcsline.specs.Record.{Lf, endingText, Data, ExtendedLinearAddress, End, bodyOf, Line, recordText}
+use Rattle.mcsline.proofs.Laws.{record-long}
 use Rattle.mcs.specs.Text.{fileText}
 use Rattle.canonical.specs.Canonical.{upperLine, upperLines, dataLine, recordLines, partLines, partText, endLine, canonicalText, shorterLength, canonicalLength}
 use Rattle.canonical.specs.Theorems.{TextLong}
-use Rattle.canonical.proofs.PartLaws.{upper-here, upper-none, file-append, part-none, empty, Piece, part-first, by-records}
-
--- A record's line has a colon, two characters for each pair and for the sum, and its end.
-pub record-long : (r : Record) (e : Ending) → length (recordText (Row r e)) ≡ 2 * length (bodyOf r) + 3 + length (endingText e)
-unfolding recordText lineText pairsOf
-record-long r e =
-    let a = length-append (bodyOf r) (checksum (bodyOf r) ∷ []) in
-    let b = hex-long (bodyOf r ++ checksum (bodyOf r) ∷ []) in
-    let c = length-append (COLON ∷ hex (bodyOf r ++ checksum (bodyOf r) ∷ [])) (endingText e) in
-    omega arith
+use Rattle.canonical.proofs.PartLaws.{upper-here, upper-none, file-append, part-none, Piece, part-first, by-records, in-parts}
 
 pub data-long : (at : ℕ) (bytes : List ℕ) → length (recordText (dataLine at bytes)) ≡ 2 * length bytes + 12
 unfolding bodyOf endingText
@@ -64,7 +54,7 @@ uppers-more at b h s m = go (equal-or-not (at % 65536) 0)
 abbrev dataLength : ℕ → ℕ
 dataLength n = 44 * (n / 16) + shorterLength (n % 16)
 
-shorter : (b : ℕ) → 1 ≤ b → shorterLength b ≡ 12 + 2 * b
+pub shorter : (b : ℕ) → 1 ≤ b → shorterLength b ≡ 12 + 2 * b
 unfolding shorterLength
 shorter zero h = absurd (omega arith)
 shorter (suc b) h = refl
@@ -117,7 +107,7 @@ part-long = by-records (λ (part : List ℕ). (at : ℕ) → (1 ≤ length part 
         let some = piece .some in
         let even : at % 16 ≡ 0 = h (omega arith) in
         let text : length (partText at (bytes ++ rest)) ≡ length (fileText (upperLines at)) + (2 * length bytes + 12) + length (partText (at + length bytes) rest) =
-        ap (λ (x : List Line). length (fileText x)) (part-first at bytes rest piece ∙ append-assoc (upperLines at) (dataLine at bytes ∷ []) (partLines (at + length bytes) rest))
+        ap (λ (x : List Line). length (fileText x)) (part-first at bytes rest piece)
         ∙ ap (λ (l : List ℕ). length l) (file-append (upperLines at) (dataLine at bytes ∷ partLines (at + length bytes) rest))
         ∙ length-append (fileText (upperLines at)) (fileText (dataLine at bytes ∷ partLines (at + length bytes) rest))
         ∙ (let o = one-long (dataLine at bytes) (partLines (at + length bytes) rest) in let d = data-long at bytes in omega arith) in
@@ -132,11 +122,9 @@ part-long = by-records (λ (part : List ℕ). (at : ℕ) → (1 ≤ length part 
 pub text-long : TextLong
 text-long image =
     let p = part-long image 0 (λ s. refl) in
-    let f : length (canonicalText image) ≡ length (partText 0 image) + length (fileText (endLine ∷ [])) =
-    ap (λ (l : List ℕ). length l) (file-append (partLines 0 image) (endLine ∷ [])) ∙ length-append (partText 0 image) (fileText (endLine ∷ [])) in
-    let o = one-long endLine [] in
+    let f : length (canonicalText image) ≡ length (partText 0 image) + length (recordText endLine) =
+    ap (λ (l : List ℕ). length l) (in-parts .whole image) ∙ length-append (partText 0 image) (recordText endLine) in
     let e = end-long in
-    let n = none-long in
     let z : 0 + length image ≡ length image = omega arith in
     let q : length (partText 0 image) + 16 * 0 ≡ 16 * ((length image + 65535) / 65536) + dataLength (length image) = rw z at p in
     omega arith

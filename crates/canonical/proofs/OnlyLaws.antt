@@ -12,7 +12,7 @@ use Rattle.mcsline.specs.Record.{Ending, Lf, Data, ExtendedLinearAddress, End, 
 use Rattle.mcs.specs.Text.{fileText, FileFrom, FileOf}
 use Rattle.mcs.specs.Reading.{Holds, readText}
 use Rattle.mcs.proofs.Laws.{round-trip}
-use Rattle.canonical.specs.Canonical.{writable, upperLine, upperLines, dataLine, partLines, endLine, canonicalLines, canonicalText}
+use Rattle.canonical.specs.Canonical.{upperLine, upperLines, dataLine, partLines, endLine, canonicalLines, canonicalText}
 use Rattle.canonical.specs.Rule.{dataOf, AllLf, Sixteens, UppersBefore, InForm}
 use Rattle.canonical.proofs.PartLaws.{upper-here, upper-none, part-none, Piece, part-rows}
 

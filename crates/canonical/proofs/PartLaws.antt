@@ -1,4 +1,4 @@
--- Laws of a part of an image: its records one after the other, and how long their lines are.
+-- Laws of a part of an image: its records one after the other.
 use Prim.Native.Nat.{ℕ, zero, suc, _+_, _*_, _/_, _%_, _≤_}
 use mathlib.Core.Path.{_≡_, refl, sym, ap, ap₂, subst, _∙_}
 use mathlib.Core.List.{List, [], _∷_, _++_, append-assoc, append-nil}
@@ -8,11 +8,11 @@ use native.Mathlib.Omega.{arith}
 use borrow.Author.Tests.{eq-eqb, ne-eqb}
 use lib.ListN.{length, take, drop, length-append, length-take, length-drop, take-append-drop, drop-of-length-le}
 use lib.Seq.{take-at, drop-at, take-all, take-append-le, drop-append-le}
-use Rattle.base.proofs.Laws.{below-or-not, equal-or-not}
+use Rattle.base.proofs.Laws.{below-or-not, nil-of-length}
 use Rattle.mcsline.specs.Record.{Line, recordText}
 use Rattle.mcs.specs.Text.{fileText}
-use Rattle.canonical.specs.Canonical.{upperLine, upperLines, dataLine, recordLines, recordsOf, linesFrom, partLines, partText}
-use Rattle.canonical.specs.Theorems.{PartsJoin}
+use Rattle.canonical.specs.Canonical.{upperLine, upperLines, dataLine, recordLines, recordsOf, linesFrom, partLines, partText, endLine, canonicalText}
+use Rattle.canonical.specs.Theorems.{InParts}
 
 -- The lines of one record.
 
@@ -40,10 +40,6 @@ lines-more : (records at : ℕ) (bytes : List ℕ) → linesFrom (suc records) a
 unfolding linesFrom
 lines-more records at bytes = refl
 
-pub empty : {A : Type 0} (l : List A) → length l ≡ 0 → l ≡ []
-empty [] e = refl
-empty (x ∷ l) e = absurd (omega arith)
-
 pub part-none : (at : ℕ) → partLines at [] ≡ []
 part-none at = lines-none at []
 
@@ -66,14 +62,14 @@ module _ (at : ℕ) (bytes rest : List ℕ) (piece : Piece bytes rest) where
     where
       go : (1 ≤ length rest) ⊎ (length rest ≤ 0) → take 16 (bytes ++ rest) ≡ bytes
       go (inl some) = take-at bytes rest 16 (piece .full some)
-      go (inr none) = rw (empty rest (omega arith)) (rw (append-nil bytes) (take-all 16 bytes (piece .most)))
+      go (inr none) = rw (nil-of-length rest (omega arith)) (rw (append-nil bytes) (take-all 16 bytes (piece .most)))
 
   others : drop 16 (bytes ++ rest) ≡ rest
   others = go (below-or-not 0 (length rest))
     where
       go : (1 ≤ length rest) ⊎ (length rest ≤ 0) → drop 16 (bytes ++ rest) ≡ rest
       go (inl some) = drop-at bytes rest 16 (piece .full some)
-      go (inr none) = rw (empty rest (omega arith)) (rw (append-nil bytes) (drop-of-length-le bytes {i = 16} (piece .most)))
+      go (inr none) = rw (nil-of-length rest (omega arith)) (rw (append-nil bytes) (drop-of-length-le bytes {i = 16} (piece .most)))
 
   -- The lines after the first record's, of a rest that begins where it ends.
   after : partLines (at + 16) rest ≡ partLines (at + length bytes) rest
@@ -81,28 +77,27 @@ module _ (at : ℕ) (bytes rest : List ℕ) (piece : Piece bytes rest) where
     where
       go : (1 ≤ length rest) ⊎ (length rest ≤ 0) → partLines (at + 16) rest ≡ partLines (at + length bytes) rest
       go (inl some) = ap (λ (n : ℕ). partLines (at + n) rest) (sym (piece .full some))
-      go (inr none) = rw (empty rest (omega arith)) (part-none (at + 16) ∙ sym (part-none (at + length bytes)))
+      go (inr none) = rw (nil-of-length rest (omega arith)) (part-none (at + 16) ∙ sym (part-none (at + length bytes)))
 
-  pub part-first : partLines at (bytes ++ rest) ≡ recordLines at bytes ++ partLines (at + length bytes) rest
+  pub part-first : partLines at (bytes ++ rest) ≡ upperLines at ++ dataLine at bytes ∷ partLines (at + length bytes) rest
   part-first =
       ap (λ (n : ℕ). linesFrom n at (bytes ++ rest)) (records (length (bytes ++ rest)) (length-append bytes rest))
       ∙ lines-more (recordsOf (length rest)) at (bytes ++ rest)
       ∙ ap₂ (λ (x y : List ℕ). recordLines at x ++ linesFrom (recordsOf (length rest)) (at + 16) y) first others
       ∙ ap (λ (l : List Line). recordLines at bytes ++ l) after
+      ∙ append-assoc (upperLines at) (dataLine at bytes ∷ []) (partLines (at + length bytes) rest)
 
   -- The same, with lines that follow.
   pub part-rows : (lines : List Line) → partLines at (bytes ++ rest) ++ lines ≡ upperLines at ++ dataLine at bytes ∷ (partLines (at + length bytes) rest ++ lines)
   part-rows lines =
-      ap (λ (l : List Line). l ++ lines) part-first
-      ∙ append-assoc (recordLines at bytes) (partLines (at + length bytes) rest) lines
-      ∙ append-assoc (upperLines at) (dataLine at bytes ∷ []) (partLines (at + length bytes) rest ++ lines)
+      ap (λ (l : List Line). l ++ lines) part-first ∙ append-assoc (upperLines at) (dataLine at bytes ∷ partLines (at + length bytes) rest) lines
 
 -- What holds of no bytes, and of a record's bytes and a rest of which it holds, holds of every part.
 pub by-records : (P : List ℕ → Type 0) → P [] → ((bytes rest : List ℕ) → Piece bytes rest → P rest → P (bytes ++ rest)) → (part : List ℕ) → P part
 by-records P none more part = go (length part) part (omega arith)
   where
     go : (n : ℕ) (part : List ℕ) → length part ≤ n → P part
-    go zero part h = subst P (sym (empty part (omega arith))) none
+    go zero part h = subst P (sym (nil-of-length part (omega arith))) none
     go (suc n) part h = either (below-or-not 0 (length part)) (go n)
       where
         either : (1 ≤ length part) ⊎ (length part ≤ 0) → ((rest : List ℕ) → length rest ≤ n → P rest) → P part
@@ -111,7 +106,7 @@ by-records P none more part = go (length part) part (omega arith)
             let d = length-drop 16 part in
             let piece : Piece (take 16 part) (drop 16 part) = record { some = omega arith; most = omega arith; full = λ s. omega arith } in
             subst P (take-append-drop 16 part) (more (take 16 part) (drop 16 part) piece (ih (drop 16 part) (omega arith)))
-        either (inr none′) ih = subst P (sym (empty part (omega arith))) none
+        either (inr none′) ih = subst P (sym (nil-of-length part (omega arith))) none
 
 -- PARTS JOIN.
 
@@ -125,10 +120,17 @@ lines-join (suc k) m at front back h =
     let ih = lines-join k m (at + 16) (drop 16 front) back (omega (arith, length-drop 16 front)) in
     rw (a, take-append-le 16 front back (omega arith), drop-append-le 16 front back (omega arith), ih, b) (sym (append-assoc (recordLines at (take 16 front)) (linesFrom k (at + 16) (drop 16 front)) (linesFrom m (at + 16 * suc k) back)))
 
-pub parts-join : PartsJoin
+parts-join : (at : ℕ) (front back : List ℕ) → length front % 16 ≡ 0 → partText at (front ++ back) ≡ partText at front ++ partText (at + length front) back
 parts-join at front back h =
     let k = recordsOf (length front) in
     let m = recordsOf (length back) in
     let all : recordsOf (length (front ++ back)) ≡ k + m = omega (arith, length-append front back) in
     let long : 16 * k ≡ length front = omega arith in
     rw all (ap fileText (lines-join k m at front back (sym long)) ∙ file-append (linesFrom k at front) (linesFrom m (at + 16 * k) back) ∙ rw long refl)
+
+whole-text : (image : List ℕ) → canonicalText image ≡ partText 0 image ++ recordText endLine
+unfolding fileText
+whole-text image = file-append (partLines 0 image) (endLine ∷ []) ∙ ap (λ (l : List ℕ). partText 0 image ++ l) (append-nil (recordText endLine))
+
+pub in-parts : InParts
+in-parts = record { join = parts-join; whole = whole-text }

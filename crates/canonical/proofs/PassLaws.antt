@@ -9,20 +9,22 @@ use borrow.Author.Tests.{eqb-true, eqb-false, eq-eqb, ne-eqb, le-leb, leb-true, 
 use lib.Dec.{eqb, leb}
 use lib.ListN.{length, length-append}
 use Rattle.base.specs.Question.{ask}
-use Rattle.base.proofs.Laws.{asked, false-true, equal-or-not}
+use Rattle.base.proofs.Laws.{asked, asked-yes, false-true, equal-or-not}
 use Rattle.mcsline.specs.Record.{Ending, Lf, CrLf, endingText, Record, Data, ExtendedLinearAddress, End, bodyOf, Line, Row, recordText, AllBytes, Fit}
 use Rattle.mcsline.specs.Line.{Parsed, Is, Refuses, parsed, byParsed}
-use Rattle.mcsline.proofs.Laws.{text-parsed, parsed-text}
+use Rattle.mcsline.proofs.Laws.{bytes-apart, text-parsed, parsed-text, record-long}
+use Rattle.kind.specs.Layout.{longestChip}
+use Rattle.kind.proofs.Laws.{image-length-range}
 use Rattle.mcs.specs.Text.{fileText, FileFrom}
 use Rattle.mcs.specs.Reading.{linesOf, isEmpty}
-use Rattle.mcs.proofs.Laws.{joined, joined-lines, lines-file, no-file, no-lines-left, joined-none, written-more}
-use Rattle.canonical.specs.Canonical.{writable, upperLine, upperLines, dataLine, partLines, endLine, canonicalText}
-use Rattle.canonical.specs.Rule.{dataOf, AllLf, Sixteens, UppersBefore, InForm}
+use Rattle.mcs.proofs.Laws.{joined, joined-lines, lines-file, no-file, fit-end, none-none, no-lines-left, joined-none, written-more}
+use Rattle.canonical.specs.Canonical.{upperLine, upperLines, dataLine, partLines, endLine}
+use Rattle.canonical.specs.Rule.{writable, dataOf, AllLf, Sixteens, UppersBefore, InForm}
 use Rattle.canonical.specs.Test.{isCanonical}
 use Rattle.canonical.specs.Pass.{dataFits, upperFits, endFits, linesPass, textPasses}
 use Rattle.canonical.proofs.PartLaws.{upper-here, upper-none, part-none, Piece, part-rows, by-records}
-use Rattle.canonical.proofs.LengthLaws.{record-long, data-long, upper-long, end-long}
-use Rattle.canonical.proofs.RuleLaws.{writable-range, bytes-apart, data-fits}
+use Rattle.canonical.proofs.LengthLaws.{data-long, upper-long, end-long}
+use Rattle.canonical.proofs.RuleLaws.{data-fits}
 use Rattle.canonical.proofs.TestLaws.{Yes, yes-says, test-exact}
 
 -- THE TEXT OF AN IMAGE PASSES
@@ -60,36 +62,26 @@ data-good upper at count long even most is u = rw (eq-eqb _ _ even, le-leb count
     go true e = e
     go false e = ap not e
 
-upper-good : (at long : ℕ) → at % 65536 ≡ 0 → long ≡ 16 → upperFits false at (at / 65536) long ≡ true
+upper-good : (at long : ℕ) → long ≡ 16 → upperFits false at (at / 65536) long ≡ true
 unfolding upperFits ask
-upper-good at long here is = rw (eq-eqb _ _ here, eq-eqb (at / 65536) (at / 65536) refl) (eq-eqb long 16 is)
+upper-good at long is = rw (eq-eqb (at / 65536) (at / 65536) refl) (eq-eqb long 16 is)
 
 end-good : (next long : ℕ) → long ≡ 12 → writable next ≡ true → endFits false next long ≡ true
 unfolding endFits ask
 end-good next long is w = rw (eq-eqb _ _ is) w
 
-fit-end : Fit End
-unfolding Fit
-fit-end = tt
-
 fit-upper : (half : ℕ) → half ≤ 65535 → Fit (ExtendedLinearAddress half)
 unfolding Fit
 fit-upper half h = omega arith
 
-yes-then : (b : Bool) {rest : Bool} → b ≡ true → rest ≡ true → ask b false rest ≡ true
-unfolding ask
-yes-then true e r = r
-yes-then false e r = absurd (false-true e)
-
-none-left : isEmpty [] ≡ true
-unfolding isEmpty
-none-left = refl
+yes-then : (b rest : Bool) → b ≡ true → rest ≡ true → ask b false rest ≡ true
+yes-then b rest e r = asked-yes b false rest e ∙ r
 
 end-passes : (next : ℕ) → writable next ≡ true → linesPass (linesOf (fileText (endLine ∷ []))) false next ≡ true
 end-passes next w =
     ap (λ (l : List (List ℕ)). linesPass l false next) (lines-file End Lf [] fit-end)
     ∙ pass-end (recordText endLine) (linesOf (fileText [])) false next (text-parsed End Lf fit-end)
-    ∙ yes-then (isEmpty (linesOf (fileText []))) (ap isEmpty no-file ∙ none-left) (end-good next (length (recordText endLine)) end-long w)
+    ∙ yes-then (isEmpty (linesOf (fileText []))) _ (ap isEmpty no-file ∙ none-none) (end-good next (length (recordText endLine)) end-long w)
 
 -- A data record, right after an upper half or not, and lines that pass after it.
 data-passes : (upper : Bool) (at : ℕ) (bytes : List ℕ) (rows : List Line) → at % 16 ≡ 0 → 1 ≤ length bytes → length bytes ≤ 16 → AllBytes bytes → upper ≡ eqb (at % 65536) 0 →
@@ -98,14 +90,14 @@ data-passes upper at bytes rows even some most small u rest =
     let fit = data-fits at bytes some most small in
     ap (λ (l : List (List ℕ)). linesPass l upper at) (lines-file (Data (at % 65536) bytes) Lf rows fit)
     ∙ pass-data (recordText (dataLine at bytes)) (linesOf (fileText rows)) upper at (at % 65536) bytes (text-parsed (Data (at % 65536) bytes) Lf fit)
-    ∙ yes-then _ (data-good upper at (length bytes) (length (recordText (dataLine at bytes))) even most (data-long at bytes) u) rest
+    ∙ yes-then _ _ (data-good upper at (length bytes) (length (recordText (dataLine at bytes))) even most (data-long at bytes) u) rest
 
-upper-passes : (at : ℕ) (rows : List Line) → at % 65536 ≡ 0 → at / 65536 ≤ 65535 → linesPass (linesOf (fileText rows)) true at ≡ true → linesPass (linesOf (fileText (upperLine at ∷ rows))) false at ≡ true
-upper-passes at rows here small rest =
+upper-passes : (at : ℕ) (rows : List Line) → at / 65536 ≤ 65535 → linesPass (linesOf (fileText rows)) true at ≡ true → linesPass (linesOf (fileText (upperLine at ∷ rows))) false at ≡ true
+upper-passes at rows small rest =
     let fit = fit-upper (at / 65536) small in
     ap (λ (l : List (List ℕ)). linesPass l false at) (lines-file (ExtendedLinearAddress (at / 65536)) Lf rows fit)
     ∙ pass-upper (recordText (upperLine at)) (linesOf (fileText rows)) false at (at / 65536) (text-parsed (ExtendedLinearAddress (at / 65536)) Lf fit)
-    ∙ yes-then _ (upper-good at (length (recordText (upperLine at))) here (upper-long at)) rest
+    ∙ yes-then _ _ (upper-good at (length (recordText (upperLine at))) (upper-long at)) rest
 
 Passes : List ℕ → Type 0
 Passes part = (at : ℕ) → (1 ≤ length part → at % 16 ≡ 0) → AllBytes part → writable (at + length part) ≡ true → linesPass (linesOf (fileText (partLines at part ++ endLine ∷ []))) false at ≡ true
@@ -141,8 +133,8 @@ part-passes = by-records Passes none more
 
         go : at % 16 ≡ 0 → (at % 65536 ≡ 0) ⊎ (at % 65536 ≡ 0 → ⊥) → linesPass (linesOf (fileText (upperLines at ++ dataLine at bytes ∷ rows))) false at ≡ true
         go z (inl here) =
-            let r = writable-range (at + length bytes + length rest) long in
-            rw (upper-here at here) (upper-passes at (dataLine at bytes ∷ rows) here (omega arith) (data′ true z (sym (eq-eqb _ _ here))))
+            let r = image-length-range longestChip (at + length bytes + length rest) long in
+            rw (upper-here at here) (upper-passes at (dataLine at bytes ∷ rows) (omega arith) (data′ true z (sym (eq-eqb _ _ here))))
         go z (inr other) = rw (upper-none at other) (data′ false z (sym (ne-eqb (at % 65536) 0 other)))
 
 canonical-passes : (text : List ℕ) → Yes text → textPasses text ≡ true
@@ -167,13 +159,12 @@ data-asked upper next address count long e =
     last true h = h
     last false h = not-true upper h
 
-upper-asked : (upper : Bool) (next half long : ℕ) → upperFits upper next half long ≡ true → (upper ≡ false) × (next % 65536 ≡ 0) × (half ≡ next / 65536) × (long ≡ 16)
+upper-asked : (upper : Bool) (next half long : ℕ) → upperFits upper next half long ≡ true → (upper ≡ false) × (half ≡ next / 65536) × (long ≡ 16)
 unfolding upperFits
 upper-asked upper next half long e =
     let a = asked (not upper) false _ true e false-true in
-    let b = asked (eqb (next % 65536) 0) false _ true (a .1) false-true in
-    let c = asked (eqb half (next / 65536)) false _ true (b .1) false-true in
-    (not-true upper (a .0), eqb-true _ _ (b .0), eqb-true _ _ (c .0), eqb-true _ _ (c .1))
+    let b = asked (eqb half (next / 65536)) false _ true (a .1) false-true in
+    (not-true upper (a .0), eqb-true _ _ (b .0), eqb-true _ _ (b .1))
 
 end-asked : (upper : Bool) (next long : ℕ) → endFits upper next long ≡ true → (upper ≡ false) × (long ≡ 12) × (writable next ≡ true)
 unfolding endFits
@@ -256,7 +247,7 @@ module _ (line : List ℕ) (lines : List (List ℕ)) (ih : Passed lines) (upper 
       let q = upper-asked upper next other (length line) (a .0) in
       let t = parsed-text line (ExtendedLinearAddress other) p in
       let e : t .0 ≡ Lf = ends-lf line (ExtendedLinearAddress other) (t .0) (t .1 .0) (omega arith) in
-      let r = ih true next other image here (λ c. q .2) (a .1) in
+      let r = ih true next other image here (λ c. q .1) (a .1) in
       record {
         rows = Row (ExtendedLinearAddress other) (t .0) ∷ r .rows;
         whole = r .whole;

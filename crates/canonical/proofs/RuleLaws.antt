@@ -11,21 +11,13 @@ use lib.ListN.{length, length-append}
 use Rattle.base.specs.Question.{ask}
 use Rattle.base.proofs.Laws.{equal-or-not, asked, false-true}
 use Rattle.mcsline.specs.Record.{Lf, Data, ExtendedLinearAddress, End, Line, Row, AllBytes, Fit}
-use Rattle.mcs.specs.Text.{fileText, FileFrom, FileOf}
-use Rattle.canonical.specs.Canonical.{writable, upperLine, upperLines, dataLine, partLines, endLine, canonicalLines, canonicalText}
-use Rattle.canonical.specs.Rule.{dataOf, AllLf, Sixteens, UppersBefore, InForm}
+use Rattle.mcsline.proofs.Laws.{bytes-apart}
+use Rattle.mcs.specs.Text.{FileFrom, FileOf}
+use Rattle.kind.specs.Layout.{longestChip}
+use Rattle.kind.proofs.Laws.{image-length-range}
+use Rattle.canonical.specs.Canonical.{upperLine, upperLines, dataLine, partLines, endLine, canonicalLines, canonicalText}
+use Rattle.canonical.specs.Rule.{writable, dataOf, AllLf, Sixteens, UppersBefore, InForm}
 use Rattle.canonical.proofs.PartLaws.{upper-here, upper-none, part-none, Piece, part-rows, by-records}
-
-pub writable-range : (n : ℕ) → writable n ≡ true → (1 ≤ n) × (n ≤ 16777216)
-unfolding writable
-writable-range n e =
-    let a : (leb 1 n ≡ true) × (leb n 16777216 ≡ true) = asked (leb 1 n) false (leb n 16777216) true e false-true in
-    (leb-true 1 n (a .0), leb-true n 16777216 (a .1))
-
-pub bytes-apart : (front back : List ℕ) → AllBytes (front ++ back) → AllBytes front × AllBytes back
-unfolding AllBytes
-bytes-apart [] back h = (tt, h)
-bytes-apart (x ∷ front) back h = let r = bytes-apart front back (h .1) in ((h .0, r .0), r .1)
 
 -- IT IS A FILE
 
@@ -99,7 +91,7 @@ file-part = by-records FileAfter none more
 pub canonical-file : (image : List ℕ) → AllBytes image → writable (length image) ≡ true → FileOf (canonicalLines image) image
 unfolding FileAfter
 canonical-file image small e =
-    let r = writable-range (length image) e in
+    let r = image-length-range longestChip (length image) e in
     file-part image 0 0 [] refl (λ s. refl) (omega arith) small (λ s o. absurd (o refl))
 
 -- IT KEEPS THE RULES

@@ -9,18 +9,19 @@ use lib.ListN.{length}
 use Rattle.base.specs.Question.{ask}
 use Rattle.base.proofs.Laws.{asked, false-true}
 use Rattle.mcsline.specs.Record.{Data, ExtendedLinearAddress, End, Line, Row, AllBytes, Fit}
+use Rattle.mcsline.proofs.Laws.{both-bytes}
 use Rattle.mcs.specs.Text.{FileFrom}
 use Rattle.mcs.specs.Reading.{Reading, Holds, Refused, readText}
 use Rattle.mcs.specs.Reader.{answerOf, heldOutput}
 use Rattle.mcs.proofs.Laws.{round-trip}
-use Rattle.canonical.specs.Canonical.{writable, canonicalLines, canonicalText}
-use Rattle.canonical.specs.Rule.{dataOf, InForm}
+use Rattle.canonical.specs.Canonical.{canonicalLines, canonicalText}
+use Rattle.canonical.specs.Rule.{writable, dataOf, InForm}
 use Rattle.canonical.specs.Test.{sameText, isTextOf, isCanonical}
 use Rattle.canonical.specs.Theorems.{OneText, ReadBack, TestExact}
 use Rattle.canonical.proofs.RuleLaws.{canonical-file, formed}
 use Rattle.canonical.proofs.OnlyLaws.{file-data, in-form-holds, in-form-is, only}
 
-pub canonical-holds : (image : List ℕ) → AllBytes image → writable (length image) ≡ true → readText (canonicalText image) ≡ Holds image
+canonical-holds : (image : List ℕ) → AllBytes image → writable (length image) ≡ true → readText (canonicalText image) ≡ Holds image
 canonical-holds image small e = round-trip .file-holds (canonicalLines image) image (canonical-file image small e)
 
 pub one-text : OneText
@@ -55,11 +56,6 @@ same-is (c ∷ cs) (d ∷ ds) e =
     ap₂ (λ (x : ℕ) (xs : List ℕ). x ∷ xs) (eqb-true c d (a .0)) (same-is cs ds (a .1))
 
 -- A file's image is of bytes.
-
-both-bytes : (front back : List ℕ) → AllBytes front → AllBytes back → AllBytes (front ++ back)
-unfolding AllBytes
-both-bytes [] back h k = k
-both-bytes (x ∷ front) back h k = (h .0, both-bytes front back (h .1) k)
 
 data-bytes : (lines : List Line) (half : ℕ) (image whole : List ℕ) → FileFrom half image lines whole → AllBytes (dataOf lines)
 unfolding FileFrom dataOf Fit AllBytes

@@ -1,16 +1,11 @@
 -- The text that an image is written to. Document 02, M-100: "a type 04 record before the data at every multiple of 65,536, the first at 0, then records of 16 bytes, the last shorter, capitals, LF, end record". Capitals are every record's (`mcsline`).
 use Prim.Native.Nat.{ℕ, zero, suc, _+_, _*_, _/_, _%_}
-use mathlib.Core.Bool.{Bool, true, false}
+use mathlib.Core.Bool.{true, false}
 use mathlib.Core.List.{List, [], _∷_, _++_}
-use lib.Dec.{eqb, leb}
+use lib.Dec.{eqb}
 use lib.ListN.{length, take, drop}
-use Rattle.base.specs.Question.{ask}
 use Rattle.mcsline.specs.Record.{Lf, Data, ExtendedLinearAddress, End, Line, Row}
 use Rattle.mcs.specs.Text.{fileText}
-
--- Question 4 of an image that is written: an image is 1 to 16,777,216 bytes. Any bytes are one.
-unfoldable pub writable : ℕ → Bool
-writable n = ask (leb 1 n) false (leb n 16777216)
 
 -- The lines of one record's bytes, which begin at `at` in the image: where that is a multiple of 65,536 its upper half comes first.
 abbrev pub upperLine : ℕ → Line

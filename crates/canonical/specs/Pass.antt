@@ -7,7 +7,7 @@ use lib.ListN.{length}
 use Rattle.base.specs.Question.{ask}
 use Rattle.mcsline.specs.Line.{parsed, byParsed}
 use Rattle.mcs.specs.Reading.{linesOf, isEmpty}
-use Rattle.canonical.specs.Canonical.{writable}
+use Rattle.canonical.specs.Rule.{writable}
 
 -- What is asked of a line that is `long` characters long, given whether the line before is of type 04 and how many data bytes came before. A line that ends in CR LF is a character too long.
 
@@ -20,13 +20,12 @@ dataFits upper next address count long =
     (ask (eqb address (next % 65536)) false
     (elim (eqb (next % 65536) 0) [ true ↦ upper | false ↦ not upper ]))))
 
--- of a type 04 record: it is at a multiple of 65,536 and has its upper half
+-- of a type 04 record: it is not right after another, and has the upper half of the next place. (That this is a multiple of 65,536 is asked of the line after it.)
 unfoldable pub upperFits : Bool → ℕ → ℕ → ℕ → Bool
 upperFits upper next half long =
     ask (not upper) false
-    (ask (eqb (next % 65536) 0) false
     (ask (eqb half (next / 65536)) false
-    (eqb long 16)))
+    (eqb long 16))
 
 -- of the end record: it comes after data, and they are as many as can be written
 unfoldable pub endFits : Bool → ℕ → ℕ → Bool

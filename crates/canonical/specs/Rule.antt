@@ -1,4 +1,4 @@
--- The form as the paper says it, without the writer: a rule of lines that are a file. Document 02, M-100: "a type 04 record before the data at every multiple of 65,536, the first at 0, then records of 16 bytes, the last shorter, capitals, LF, end record. An image is 1 to 16,777,216 bytes." That a file ends with its end record and that its upper halves are those of its addresses is every file's (`FileOf`), and capitals are every record's.
+-- The form as the paper says it, without the writer: a rule of lines that are a file. Document 02, M-100: "a type 04 record before the data at every multiple of 65,536, the first at 0, then records of 16 bytes, the last shorter, capitals, LF, end record. An image is 1 to 16,777,216 bytes." What every file keeps is not said again (`FileOf`): data records start where the last ended, and none goes past a multiple of 65,536, so that one starts at each; the upper halves are those of the addresses; the end record is last. Capitals are every record's.
 use Prim.Native.Nat.{ℕ, _+_, _%_, _≤_}
 use mathlib.Core.Path.{_≡_}
 use mathlib.Core.Bool.{Bool, true, false}
@@ -7,7 +7,11 @@ use lib.Dec.{eqb}
 use lib.ListN.{length}
 use Rattle.mcsline.specs.Record.{Lf, Data, ExtendedLinearAddress, End, Line, Row}
 use Rattle.mcs.specs.Text.{fileText, FileOf}
-use Rattle.canonical.specs.Canonical.{writable}
+use Rattle.kind.specs.Layout.{longestChip, imageLengthAllowed}
+
+-- "An image is 1 to 16,777,216 bytes": question 4 of one that is written. Whether it loads is not asked.
+abbrev pub writable : ℕ → Bool
+writable n = imageLengthAllowed longestChip n
 
 -- the bytes of the data records, one after the other
 unfoldable pub dataOf : List Line → List ℕ

@@ -6,7 +6,8 @@ use lib.Dec.{eqb}
 use lib.ListN.{length}
 use Rattle.base.specs.Question.{ask}
 use Rattle.mcs.specs.Reading.{Reading, Holds, Refused, readText}
-use Rattle.canonical.specs.Canonical.{writable, canonicalText}
+use Rattle.canonical.specs.Canonical.{canonicalText}
+use Rattle.canonical.specs.Rule.{writable}
 
 -- the same characters
 unfoldable pub sameText : List ℕ → List ℕ → Bool

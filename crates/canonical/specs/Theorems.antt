@@ -1,19 +1,19 @@
 -- What is proved of the canonical form, beside the contracts of the calls.
-use Prim.Native.Nat.{ℕ, _+_, _%_, _≤_}
+use Prim.Native.Nat.{ℕ, _+_, _%_}
 use mathlib.Core.Path.{_≡_}
 use mathlib.Core.Bool.{true}
 use mathlib.Core.List.{List, _++_}
+use lib.Dec.{leb}
 use lib.ListN.{length}
 use Rattle.base.specs.Output.{frontFilled}
-use Rattle.base.specs.Refusal.{noRoom}
 use Rattle.base.specs.Question.{ask}
-use lib.Dec.{leb}
-use Rattle.mcsline.specs.Record.{AllBytes}
+use Rattle.base.specs.Refusal.{noRoom}
+use Rattle.mcsline.specs.Record.{recordText, AllBytes}
 use Rattle.mcs.specs.Reading.{Holds, readText}
 use Rattle.mcs.specs.Reader.{readAnswer, readOutput}
 use Rattle.mcs.specs.declared.reader.ReadAnswer.the-variants.{Read, Refused as ReadRefused}
-use Rattle.canonical.specs.Canonical.{writable, partText, canonicalText, canonicalLength}
-use Rattle.canonical.specs.Rule.{InForm}
+use Rattle.canonical.specs.Canonical.{partText, endLine, canonicalText, canonicalLength}
+use Rattle.canonical.specs.Rule.{writable, InForm}
 use Rattle.canonical.specs.Test.{isCanonical}
 
 -- FOR EACH IMAGE ONE SUCH TEXT EXISTS, and it reads back to the image.
@@ -41,6 +41,9 @@ pub record TestExact : Type 0 where
 abbrev pub TextLong : Type 0
 TextLong = (image : List ℕ) → length (canonicalText image) ≡ canonicalLength (length image)
 
--- A text may be written in parts that start at multiples of 16: their texts, one after the other, are the text of the whole.
-abbrev pub PartsJoin : Type 0
-PartsJoin = (at : ℕ) (front back : List ℕ) → length front % 16 ≡ 0 → partText at (front ++ back) ≡ partText at front ++ partText (at + length front) back
+-- A TEXT MAY BE WRITTEN IN PARTS that start at multiples of 16.
+pub record InParts : Type 0 where
+  -- The texts of two parts, one after the other, are the text of both,
+  pub join : (at : ℕ) (front back : List ℕ) → length front % 16 ≡ 0 → partText at (front ++ back) ≡ partText at front ++ partText (at + length front) back
+  -- and with the end record that of the image.
+  pub whole : (image : List ℕ) → canonicalText image ≡ partText 0 image ++ recordText endLine

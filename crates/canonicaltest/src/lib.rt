@@ -1,25 +1,16 @@
 // Whether a text is in the canonical form, in one pass over its lines.
 ghost use mathlib.Core.Path.{_≡_};
-ghost use Prim.Native.Nat.{_<_, _≤_};
-ghost use lib.ListN.{length};
 ghost use Rattle.digits.specs.Table.{DigitTable};
 ghost use Rattle.canonical.specs.Pass.{dataFits, upperFits, endFits, textPasses};
 ghost use Rattle.canonical.specs.Test.{isCanonical};
+use canonical::AROUND;
+use canonical::PER_RECORD;
+use canonical::SEGMENT;
 use digits::table::digit_values;
+use kind::layout::image_length_allowed;
+use kind::spi::Spi;
 use mcsline::line::LineAnswer;
 use mcsline::line::parse;
-
-// Data records have 16 bytes, the last of an image fewer.
-const PER_RECORD: usize = 16;
-
-// Addresses have an upper half and a lower one.
-const SEGMENT: usize = 65_536;
-
-// The longest image that is written.
-const LONGEST: usize = 16_777_216;
-
-// A line has so many characters beside two for each data byte, if it ends in LF.
-const AROUND: usize = 12;
 
 // Is this the data record that comes next? `next` data bytes came before it, and `upper` says whether the line before is of
 // type 04. The line is `long` characters long.
@@ -41,14 +32,11 @@ fn data_fits(upper: bool, next: usize, address: u32, count: usize, long: usize) 
     if next % SEGMENT == 0 { upper } else { !upper }
 }
 
-// Is this the type 04 record that comes next?
+// Is this a type 04 record that may come next? Whether it comes at a multiple of 65,536 is asked of the line after it.
 fn upper_fits(upper: bool, next: usize, half: u32, long: usize) -> bool
     ensures { λ r. ⌜ r ≡ upperFits upper next half long ⌝ }
 {
     if upper {
-        return false;
-    }
-    if next % SEGMENT != 0 {
         return false;
     }
     if half as usize != next / SEGMENT {
@@ -67,10 +55,7 @@ fn end_fits(upper: bool, next: usize, long: usize) -> bool
     if long != AROUND {
         return false;
     }
-    if next == 0 {
-        return false;
-    }
-    next <= LONGEST
+    image_length_allowed(Spi::LONGEST, next)
 }
 
 // The pass, given the table of digits.

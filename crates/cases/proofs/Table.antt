@@ -29,7 +29,7 @@ use Rattle.mcsline.specs.Line.{isEnding, onto, bySpelled, spelledBy, lineSpells
 use Rattle.mcs.specs.Reading.{prepend, linesOf, follows, isEmpty, readLines}
 use Rattle.mcs.specs.Reader.{readNumbers, answerOf, heldOutput}
 use Rattle.mcs.specs.Text.{fileText}
-use Rattle.canonical.specs.Canonical.{writable, upperLines, linesFrom, shorterLength}
+use Rattle.canonical.specs.Canonical.{upperLines, linesFrom, shorterLength}
 use Rattle.canonical.specs.Test.{isTextOf, sameText}
 use Rattle.fields.specs.Fields.{ascii}
 use Rattle.mcswriter.specs.Mcswriter.{textNumbers, lengthAnswer, writeAnswer, writeOutput}
@@ -46,7 +46,7 @@ abbrev _also_ : {A B : Type 0} → A → B → A × B
 row also rows = (row, rows)
 
 table : All rows
-unfolding All rows imageNumbers readNumbers layoutNumbers switchNumbers totalNumbers answerOf heldOutput frontFilled readLines byParsed follows parsed bySpelled typed byType lineSpells spelledBy onto isEnding isEmpty linesOf prepend digitOf placeIn digits byteSum imageAnswer imageLengthAllowed aloneCase ask readAt searchFrom jump find beginsWith words trace finish afterHeader modeOf headOf type1Of type2Of registerOk effectOf layoutAnswer askLayout chipLengthAllowed updatePlaceAllowed updateLengthAllowed switchAnswer switchCase totalAnswer runBefore count byPhase ordersBefore inPhase onesIn mostNumbers mostAnswer heaviestLengthAllowed mostIn textNumbers lengthAnswer writeAnswer writeOutput writable upperLines linesFrom shorterLength fileText recordText lineText endingText pairsOf bodyOf checksum hex isTextOf sameText ascii
+unfolding All rows imageNumbers readNumbers layoutNumbers switchNumbers totalNumbers answerOf heldOutput frontFilled readLines byParsed follows parsed bySpelled typed byType lineSpells spelledBy onto isEnding isEmpty linesOf prepend digitOf placeIn digits byteSum imageAnswer imageLengthAllowed aloneCase ask readAt searchFrom jump find beginsWith words trace finish afterHeader modeOf headOf type1Of type2Of registerOk effectOf layoutAnswer askLayout chipLengthAllowed updatePlaceAllowed updateLengthAllowed switchAnswer switchCase totalAnswer runBefore count byPhase ordersBefore inPhase onesIn mostNumbers mostAnswer heaviestLengthAllowed mostIn textNumbers lengthAnswer writeAnswer writeOutput upperLines linesFrom shorterLength fileText recordText lineText endingText pairsOf bodyOf checksum hex isTextOf sameText ascii
 table =
     (λ rest h. refl)
     also (λ rest h. refl)

@@ -157,14 +157,14 @@ ended15 = 0xAA ∷ 0x99 ∷ 0x55 ∷ 0x66 ∷ 0x30 ∷ 0x00 ∷ 0x80 ∷ 0x01 �
 abbrev pub line : String → List ℕ
 line characters = ascii characters ++ 0x0A ∷ []
 
-abbrev pub upperLine : List ℕ
-upperLine = line ":020000040000FA"
+abbrev pub upperText : List ℕ
+upperText = line ":020000040000FA"
 
-abbrev pub byteLine : List ℕ
-byteLine = line ":01000000AB54"
+abbrev pub byteText : List ℕ
+byteText = line ":01000000AB54"
 
-abbrev pub endLine : List ℕ
-endLine = line ":00000001FF"
+abbrev pub endText : List ℕ
+endText = line ":00000001FF"
 
 unfoldable pub rows : List Row
 rows =
@@ -223,12 +223,12 @@ rows =
     ∷ noMost 11 (refuses 29 0)
     ∷ noMost 16777217 (refuses 29 0)
     -- document 02, M-100: one byte; a room one byte short: 19; no bytes: 4
-    ∷ write (0xAB ∷ []) 42 (writes (upperLine ++ (byteLine ++ endLine)))
+    ∷ write (0xAB ∷ []) 42 (writes (upperText ++ (byteText ++ endText)))
     ∷ write (0xAB ∷ []) 41 (refuses 19 0)
     ∷ write [] 42 (refuses 4 0)
     -- 16 bytes are one record and no empty one, 17 are two
-    ∷ write (replicate 16 0) 100 (writes (upperLine ++ (line ":1000000000000000000000000000000000000000F0" ++ endLine)))
-    ∷ write (replicate 17 0) 100 (writes (upperLine ++ (line ":1000000000000000000000000000000000000000F0" ++ (line ":0100100000EF" ++ endLine))))
+    ∷ write (replicate 16 0) 100 (writes (upperText ++ (line ":1000000000000000000000000000000000000000F0" ++ endText)))
+    ∷ write (replicate 17 0) 100 (writes (upperText ++ (line ":1000000000000000000000000000000000000000F0" ++ (line ":0100100000EF" ++ endText))))
     -- how long the text is: 65,536 bytes have one type 04 record, 65,537 two
     ∷ textOf 15 (takes 70)
     ∷ textOf 16 (takes 72)
@@ -240,14 +240,14 @@ rows =
     ∷ textOf 16777216 (takes 46141452)
     ∷ textOf 16777217 (refuses 4 0)
     -- the form: as it is written
-    ∷ canonical (upperLine ++ (byteLine ++ endLine)) true
-    -- no: CR LF, a needless type 04, a trailing one, a missing first one, a short record in the middle, a record of 17 bytes, lower case, no bytes
-    ∷ canonical (upperLine ++ (ascii ":01000000AB54" ++ 0x0D ∷ 0x0A ∷ endLine)) false
-    ∷ canonical (upperLine ++ (upperLine ++ (byteLine ++ endLine))) false
-    ∷ canonical (upperLine ++ (byteLine ++ (upperLine ++ endLine))) false
-    ∷ canonical (byteLine ++ endLine) false
-    ∷ canonical (upperLine ++ (byteLine ++ (line ":01000100AC52" ++ endLine))) false
-    ∷ canonical (upperLine ++ (line ":110000000000000000000000000000000000000000EF" ++ endLine)) false
-    ∷ canonical (upperLine ++ (line ":01000000ab54" ++ endLine)) false
-    ∷ canonical endLine false
+    ∷ canonical (upperText ++ (byteText ++ endText)) true
+    -- no: CR LF, a needless type 04, a trailing one, a missing first one, a short record in the middle, a record of 32 bytes, lower case, no bytes
+    ∷ canonical (upperText ++ (ascii ":01000000AB54" ++ 0x0D ∷ 0x0A ∷ endText)) false
+    ∷ canonical (upperText ++ (upperText ++ (byteText ++ endText))) false
+    ∷ canonical (upperText ++ (byteText ++ (upperText ++ endText))) false
+    ∷ canonical (byteText ++ endText) false
+    ∷ canonical (upperText ++ (byteText ++ (line ":01000100AC52" ++ endText))) false
+    ∷ canonical (upperText ++ (line ":200000000000000000000000000000000000000000000000000000000000000000000000E0" ++ endText)) false
+    ∷ canonical (upperText ++ (line ":01000000ab54" ++ endText)) false
+    ∷ canonical endText false
     ∷ []

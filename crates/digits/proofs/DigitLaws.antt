@@ -1,4 +1,4 @@
--- Laws of digits: a digit and its value, both ways.
+-- Laws of digits: a digit and its value, both ways; the digits of bytes, and what bytes add to.
 use Prim.Native.Nat.{ℕ, zero, suc, _+_, _*_, _/_, _%_, _<_, _≤_}
 use mathlib.Core.Path.{_≡_, refl, sym, ap}
 use mathlib.Core.Bool.{Bool, true, false, _&&_}

@@ -2,11 +2,13 @@
 use Prim.Native.Nat.{ℕ, suc, _+_, _-_, _<_, _≤_}
 use mathlib.Core.Path.{_≡_, refl, sym, ap, ap₂, subst, _∙_}
 use mathlib.Core.List.{List, [], _∷_, _++_, append-assoc, append-nil}
-use native.Mathlib.Nat.{add-assoc}
+use native.Mathlib.Nat.{add-assoc, zero-add}
 use native.Mathlib.Numerals.{add-one}
 use native.Mathlib.Omega.{arith}
 use lib.ListN.{length, take, drop, set, length-append, length-drop, drop-of-length-le}
 use lib.Seq.{paste, take-all, drop-cons, drop-drop, append-snoc, set-split, lt-length-set, getD-set-same, take-set-le, drop-set-lt, length-paste, take-paste, drop-paste}
+use Rattle.base.specs.Output.{frontFilled}
+use Rattle.base.proofs.Laws.{front-fits}
 
 -- A text put right after another is the two of them put in one.
 pub paste-paste : (d : List ℕ) (at : ℕ) (s : List ℕ) (m : ℕ) (t : List ℕ) (n : ℕ) → length s ≡ m → length t ≡ n → at + m ≤ length d →
@@ -77,6 +79,14 @@ put-then {at = at} {m = m} p t n after more room e = put-after p (at + m) t n af
 -- All of it was put.
 pub put-whole : {before text after : List ℕ} {at count : ℕ} → Put before at text count after → after ≡ paste before at text (length text)
 put-whole {before} {text} {after} {at} p = p .is ∙ ap (λ (k : ℕ). paste before at text k) (sym (p .long))
+
+-- All of it was put at the front of a buffer: so output is handed back.
+pub put-front : {text buffer after : List ℕ} {count : ℕ} → Put buffer 0 text count after → frontFilled text buffer ≡ after
+put-front {text} {buffer} {after} {count} p =
+    let place : length text ≡ 0 + count = p .long ∙ sym (zero-add count) in
+    front-fits text buffer (omega (arith, p .long, p .room))
+    ∙ ap₂ (λ (s : List ℕ) (k : ℕ). s ++ drop k buffer) (sym (take-all count text (omega (arith, p .long)))) place
+    ∙ sym (p .is)
 
 -- Then comes one byte.
 pub put-byte : {before s mid : List ℕ} {at m : ℕ} → Put before at s m mid → (x : ℕ) → at + m < length before → Put before at (s ++ x ∷ []) (m + 1) (set mid (at + m) x)

@@ -115,9 +115,5 @@ words-cons s at h =
     drop-cons (words (drop at s)) 0 0 h
     ∙ ap (λ (l : List ℕ). getD (words (drop at s)) 0 0 ∷ l) (drop-words 1 (drop at s) ∙ ap words (drop-drop 4 at s))
 
-pub nil-of-length : (xs : List ℕ) → length xs ≡ 0 → xs ≡ []
-nil-of-length [] h = refl
-nil-of-length (x ∷ xs) h = absurd (omega arith)
-
 pub words-on : (s : List ℕ) (at j : ℕ) → drop j (words (drop at s)) ≡ words (drop (at + 4 * j) s)
 words-on s at j = drop-words j (drop at s) ∙ ap words (drop-drop (4 * j) at s)

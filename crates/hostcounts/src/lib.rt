@@ -1,5 +1,5 @@
 // Functions that a printer's C host calls on numbers alone (include/tealsettle.h), in a library of their own beside
-// crates `host` and `hostfiles`: how many orders a run has, and the number of one of them; how many switch words a cut can
+// crates `host`, `hostfiles` and `hosttexts`: how many orders a run has, and the number of one of them; how many switch words a cut can
 // leave; how many writes an image can have.
 ghost use mathlib.Core.Path.{_≡_};
 ghost use Rattle.kind.specs.Layout.{layoutOf};

@@ -10,7 +10,7 @@ use borrow.Author.Tests.{eqb-true, eqb-false, eq-eqb}
 use lib.Dec.{eqb}
 use lib.ListN.{length, getD}
 use Rattle.base.specs.Question.{ask}
-use Rattle.base.proofs.Laws.{asked}
+use Rattle.base.proofs.Laws.{asked, nil-of-length}
 use Rattle.kind.specs.Kind.{Kind}
 use Rattle.comparison.proofs.Laws.{differs-none, none-same}
 use Rattle.orders.specs.Table.{byPhase}
@@ -63,10 +63,6 @@ some-differs place (byte ∷ bytes) (m ∷ expected) address e = go (eqb byte m)
 for-asked : (what count replyKind lent : ℕ) → replyKind ≡ what → lent ≡ count → asksFor what count replyKind lent ≡ true
 for-asked what count replyKind lent p q = rw (eq-eqb replyKind what p, eq-eqb lent count q) refl
 
-empty : (bytes : List ℕ) → length bytes ≡ 0 → bytes ≡ []
-empty [] e = refl
-empty (byte ∷ bytes) e = absurd (omega arith)
-
 module _ (kind : Kind) (state : State) (image : List ℕ) (replyKind : ℕ) (bytes : List ℕ) where
   refused-next : (number place : ℕ) (next : State) → ReplyRefused number place state ≡ Next next → ⊥
   refused-next number place next q = let z : _≡_ {A = ℕ} 0 1 = cc in omega arith
@@ -92,7 +88,7 @@ module _ (kind : Kind) (state : State) (image : List ℕ) (replyKind : ℕ) (byt
       to-done o w says f r q =
           let c = asked _ _ _ _ q (refused-next 9 0 next) in
           let d = asked-for done 0 replyKind (length bytes) (c .0) in
-          record { fitted = f; ran = r; replied = subst (λ (x : Order). Replies x replyKind bytes) (sym w) (says (d .0, empty bytes (d .1))); comes = next-same (c .1) }
+          record { fitted = f; ran = r; replied = subst (λ (x : Order). Replies x replyKind bytes) (sym w) (says (d .0, nil-of-length bytes (d .1))); comes = next-same (c .1) }
 
       to-look : (place : ℕ) (expected : List ℕ) → currentOrder kind state image ≡ look place expected → fits state (length image) ≡ true → running state ≡ true → replyKind ≡ read → length bytes ≡ length expected →
           (d : Option ℕ) → differs place bytes expected ≡ d → compared d state ≡ Next next → Moved kind state image replyKind bytes next

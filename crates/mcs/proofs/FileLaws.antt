@@ -82,7 +82,7 @@ pub no-file : linesOf (fileText []) ≡ []
 unfolding fileText
 no-file = lines-none
 
-fit-end : Fit End
+pub fit-end : Fit End
 unfolding Fit
 fit-end = tt
 

@@ -18,10 +18,24 @@ use Rattle.mcsline.proofs.TextLaws.{line-spelled, spelled-line}
 
 -- Bytes and sums.
 
+pub both-bytes : (front back : List ℕ) → AllBytes front → AllBytes back → AllBytes (front ++ back)
+unfolding AllBytes
+both-bytes [] back h k = k
+both-bytes (x ∷ front) back h k = (h .0, both-bytes front back (h .1) k)
+
+pub bytes-apart : (front back : List ℕ) → AllBytes (front ++ back) → AllBytes front × AllBytes back
+unfolding AllBytes
+bytes-apart [] back h = (tt, h)
+bytes-apart (x ∷ front) back h = let r = bytes-apart front back (h .1) in ((h .0, r .0), r .1)
+
+pub all-bytes : (bytes : List ℕ) → ((i : ℕ) → getD bytes i 0 < 256) → AllBytes bytes
+unfolding AllBytes
+all-bytes [] h = tt
+all-bytes (b ∷ bytes) h = (h zero, all-bytes bytes (λ i. h (suc i)))
+
 bytes-end : (xs : List ℕ) (x : ℕ) → AllBytes xs → x < 256 → AllBytes (xs ++ x ∷ [])
 unfolding AllBytes
-bytes-end [] x h k = (k, tt)
-bytes-end (y ∷ ys) x h k = (h .0, bytes-end ys x (h .1) k)
+bytes-end xs x h k = both-bytes xs (x ∷ []) h (k, tt)
 
 bytes-at : (xs : List ℕ) (i : ℕ) → AllBytes xs → getD xs i 0 < 256
 unfolding AllBytes
@@ -183,12 +197,20 @@ parsed-text line r p = spelled (lineSpells line) refl
     spelled (Pairs pairs) s = counted pairs (eqb (length pairs) (countOf pairs + 5)) s refl
     spelled Broken s = refused 14 (parsed-broken line s)
 
--- A data record has two characters for each of its bytes.
-pub record-room : (address : ℕ) (bytes : List ℕ) (e : Ending) → 2 * length bytes ≤ length (recordText (Row (Data address bytes) e))
-unfolding recordText lineText pairsOf bodyOf
-record-room address bytes e =
-    let pairs = pairsOf (Data address bytes) in
-    let a : length pairs ≡ length (bodyOf (Data address bytes)) + 1 = length-append (bodyOf (Data address bytes)) (checksum (bodyOf (Data address bytes)) ∷ []) in
-    let b = hex-long pairs in
-    let c = length-append (COLON ∷ hex pairs) (endingText e) in
+-- A line has a colon, two characters for each pair and for the sum, and its end.
+pub summed-long : (pairs : List ℕ) (e : Ending) → length (lineText (pairs ++ checksum pairs ∷ []) e) ≡ 2 * length pairs + 3 + length (endingText e)
+unfolding lineText
+summed-long pairs e =
+    let a = length-append pairs (checksum pairs ∷ []) in
+    let b = hex-long (pairs ++ checksum pairs ∷ []) in
+    let c = length-append (COLON ∷ hex (pairs ++ checksum pairs ∷ [])) (endingText e) in
     omega arith
+
+pub record-long : (r : Record) (e : Ending) → length (recordText (Row r e)) ≡ 2 * length (bodyOf r) + 3 + length (endingText e)
+unfolding recordText pairsOf
+record-long r e = summed-long (bodyOf r) e
+
+-- So a data record has two characters for each of its bytes.
+pub record-room : (address : ℕ) (bytes : List ℕ) (e : Ending) → 2 * length bytes ≤ length (recordText (Row (Data address bytes) e))
+unfolding bodyOf
+record-room address bytes e = let l = record-long (Data address bytes) e in omega arith

@@ -32,11 +32,17 @@ pub data Record : Type 0 where
   ExtendedLinearAddress : (half : ℕ) → Record
   End : Record
 
--- a record's pairs but for the sum: count, address (2 bytes), type, data
+-- a record's pairs but for the sum: count, address (2 bytes), type; and its data bytes
+abbrev pub header : ℕ → ℕ → ℕ → List ℕ
+header type address count = count ∷ address / 256 ∷ address % 256 ∷ type ∷ []
+
+abbrev pub body : ℕ → ℕ → List ℕ → List ℕ
+body type address bytes = header type address (length bytes) ++ bytes
+
 unfoldable pub bodyOf : Record → List ℕ
-bodyOf (Data address bytes) = length bytes ∷ address / 256 ∷ address % 256 ∷ 0x00 ∷ bytes
-bodyOf (ExtendedLinearAddress half) = 2 ∷ 0 ∷ 0 ∷ 0x04 ∷ half / 256 ∷ half % 256 ∷ []
-bodyOf End = 0 ∷ 0 ∷ 0 ∷ 0x01 ∷ []
+bodyOf (Data address bytes) = body 0x00 address bytes
+bodyOf (ExtendedLinearAddress half) = body 0x04 0 (half / 256 ∷ half % 256 ∷ [])
+bodyOf End = body 0x01 0 []
 
 -- All its pairs add to 0 modulo 256: the sum is what is missing.
 unfoldable pub checksum : List ℕ → ℕ

@@ -1,32 +1,26 @@
 -- Laws of the two calls: what a length says of the text, and that what was written reads back.
-use Prim.Native.Nat.{ℕ, zero, suc, _+_, _<_, _≤_}
+use Prim.Native.Nat.{ℕ, _+_, _<_, _≤_}
 use mathlib.Core.Path.{_≡_, refl, sym, ap, _∙_}
 use mathlib.Core.Bool.{Bool, true, false}
-use mathlib.Core.List.{List, [], _∷_, _++_, append-nil}
+use mathlib.Core.List.{List}
 use native.Mathlib.Omega.{arith}
 use borrow.Author.Tests.{le-leb, lt-leb}
-use lib.Dec.{leb}
 use lib.ListN.{length, getD, take, drop, length-append}
 use lib.Seq.{take-at}
 use Rattle.base.specs.Output.{frontFilled}
 use Rattle.base.specs.Question.{ask}
 use Rattle.base.proofs.Laws.{front-fits}
 use Rattle.mcsline.specs.Record.{AllBytes, recordText}
-use Rattle.mcs.specs.Text.{fileText}
-use Rattle.mcs.specs.Reader.{readAnswer, readOutput}
-use Rattle.canonical.specs.Canonical.{writable, partLines, partText, endLine, canonicalText, canonicalLength}
-use Rattle.canonical.proofs.Laws.{file-append, end-long, text-long, one-text, read-back, test-exact}
+use Rattle.mcsline.proofs.Laws.{all-bytes}
+use Rattle.canonical.specs.Canonical.{partText, endLine, canonicalText, canonicalLength}
+use Rattle.canonical.specs.Rule.{writable}
+use Rattle.canonical.proofs.Laws.{in-parts, end-long, text-long, one-text, read-back, test-exact}
 use Rattle.mcswriter.specs.Mcswriter.{lengthAnswer, writeAnswer, writeOutput, ReadBackFrom, ReadsBack}
-use Rattle.mcswriter.specs.Types.{TextAnswer, Text, TextRefused}
+use Rattle.mcswriter.specs.Types.{Text, TextRefused}
 
--- The text is its part's and the end record's.
-
-pub text-parts : (image : List ℕ) → canonicalText image ≡ partText 0 image ++ recordText endLine
-unfolding fileText
-text-parts image = file-append (partLines 0 image) (endLine ∷ []) ∙ ap (λ (l : List ℕ). partText 0 image ++ l) (append-nil (recordText endLine))
-
+-- How long the text is, by its parts.
 pub parts-long : (image : List ℕ) → length (canonicalText image) ≡ length (partText 0 image) + 12
-parts-long image = ap (λ (l : List ℕ). length l) (text-parts image) ∙ length-append (partText 0 image) (recordText endLine) ∙ ap (λ (n : ℕ). length (partText 0 image) + n) end-long
+parts-long image = ap (λ (l : List ℕ). length l) (in-parts .whole image) ∙ length-append (partText 0 image) (recordText endLine) ∙ ap (λ (n : ℕ). length (partText 0 image) + n) end-long
 
 -- No refusal is a text.
 refused-text : {number place n : ℕ} → TextRefused number place ≡ Text n → ⊥
@@ -64,11 +58,6 @@ module _ (image buffer : List ℕ) where
     with-room h = (rw (can, le-leb (length (canonicalText image)) (length buffer) h) refl, rw can refl)
 
 -- What was written reads back.
-
-pub all-bytes : (bytes : List ℕ) → ((i : ℕ) → getD bytes i 0 < 256) → AllBytes bytes
-unfolding AllBytes
-all-bytes [] h = tt
-all-bytes (b ∷ bytes) h = (h zero, all-bytes bytes (λ i. h (suc i)))
 
 canonical-back : (image : List ℕ) → AllBytes image → writable (length image) ≡ true → ReadBackFrom (canonicalText image) image
 unfolding ask

@@ -10,7 +10,8 @@ use Rattle.base.specs.Output.{frontFilled}
 use Rattle.base.specs.Question.{ask}
 use Rattle.base.specs.Refusal.{badImageLength, noRoom}
 use Rattle.mcs.specs.Reader.{readAnswer, readOutput}
-use Rattle.canonical.specs.Canonical.{writable, canonicalText, canonicalLength}
+use Rattle.canonical.specs.Canonical.{canonicalText, canonicalLength}
+use Rattle.canonical.specs.Rule.{writable}
 use Rattle.canonical.specs.Test.{isCanonical}
 use Rattle.mcswriter.specs.Types.{Read, TextAnswer, Text, TextRefused}
 

@@ -4,29 +4,21 @@ ghost use Prim.Native.Nat.{_<_, _≤_};
 ghost use lib.ListN.{length};
 ghost use Rattle.base.specs.Answer.{Gives};
 ghost use Rattle.base.specs.Output.{frontFilled};
-ghost use Rattle.canonical.specs.Canonical.{writable, canonicalText, shorterLength, canonicalLength};
+ghost use Rattle.canonical.specs.Canonical.{canonicalText, shorterLength, canonicalLength};
 ghost use Rattle.mcswriter.specs.Mcswriter.{textNumbers, lengthAnswer, writeAnswer, writeOutput, ReadsBack};
 use base::refusal;
+use canonical::AROUND;
+use canonical::PER_RECORD;
+use canonical::SEGMENT;
+use kind::layout::image_length_allowed;
+use kind::spi::Spi;
 use recordwriter::part::put_end;
 use recordwriter::part::put_part;
-
-// The longest image that is written.
-const LONGEST: usize = 16_777_216;
 
 // How many bytes the text has, or a refusal that left lent memory as it was.
 pub enum TextAnswer {
     Text { length: usize },
     Refused { number: u32, place: usize },
-}
-
-// Can an image of so many bytes be written?
-fn is_writable(image_length: usize) -> bool
-    ensures { λ r. ⌜ r ≡ writable «image_length» ⌝ }
-{
-    if image_length == 0 {
-        return false;
-    }
-    image_length <= LONGEST
 }
 
 // How long the line of a record shorter than 16 bytes is; 0 where there is none.
@@ -38,7 +30,7 @@ fn shorter_length(count: usize) -> usize
     if count == 0 {
         return 0;
     }
-    12 + 2 * count
+    AROUND + 2 * count
 }
 
 // How long the text of so many bytes is: 16 characters for each upper half, 44 for each record of 16 bytes, then a shorter
@@ -47,9 +39,10 @@ fn length_of(image_length: usize) -> usize
     requires { ⌜ «image_length» ≤ 16777216 ⌝ }
     ensures { λ r. ⌜ r ≡ canonicalLength «image_length» ⌝ }
 {
-    let uppers = (image_length + 65_535) / 65_536;
-    let shorter = shorter_length(image_length % 16);
-    16 * uppers + 44 * (image_length / 16) + shorter + 12
+    let uppers = (image_length + SEGMENT - 1) / SEGMENT;
+    let whole = image_length / PER_RECORD;
+    let shorter = shorter_length(image_length % PER_RECORD);
+    (AROUND + 4) * uppers + (AROUND + 2 * PER_RECORD) * whole + shorter + AROUND
 }
 
 // Writes the text of an image that can be written into a buffer that it fits into.
@@ -65,7 +58,7 @@ fn put_text(image: &[u8], out: &mut [u8])
 pub fn text_length(image_length: usize) -> TextAnswer
     ensures { λ r. ⌜ Gives textNumbers r (lengthAnswer «image_length») ⌝ }
 {
-    if !is_writable(image_length) {
+    if !image_length_allowed(Spi::LONGEST, image_length) {
         return TextAnswer::Refused {
             number: refusal::BAD_IMAGE_LENGTH,
             place: 0,

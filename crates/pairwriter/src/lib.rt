@@ -8,7 +8,7 @@ ghost use lib.ListN.{length, getD, take, drop};
 ghost use lib.Seq.{paste};
 ghost use Rattle.digits.specs.Digit.{digits, hex, byteSum};
 
-// The character of a digit. It is computed, not looked up: so the compiler makes the digits of 16 bytes at once.
+// The character of a digit. It is computed, not looked up: so the compiler makes the digits of eight bytes at once.
 fn character(value: u8) -> u8
     requires { ⌜ value < 16 ⌝ }
     ensures { λ r. ⌜ r ≡ getD digits value 0 ⌝ }

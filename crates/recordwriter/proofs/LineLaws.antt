@@ -1,14 +1,15 @@
 -- Laws of a record's line: its parts, how long it is, and that it is the record's text.
-use Prim.Native.Nat.{ℕ, _+_, _*_, _/_, _%_, _<_, _≤_}
+use Prim.Native.Nat.{ℕ, _+_, _*_, _/_, _%_, _≤_}
 use mathlib.Core.Path.{_≡_, refl, sym, ap, _∙_}
 use mathlib.Core.List.{List, [], _∷_, _++_}
 use native.Mathlib.Omega.{arith}
-use lib.ListN.{length, take, drop, length-append, length-drop}
+use lib.ListN.{length, take, drop, length-drop}
 use lib.Seq.{length-take-le}
 use Rattle.digits.specs.Digit.{hex}
-use Rattle.digits.proofs.Laws.{hex-long, hex-append}
-use Rattle.mcsline.specs.Record.{LF, COLON, Lf, endingText, lineText, Data, ExtendedLinearAddress, End, bodyOf, checksum, pairsOf, Row, recordText}
-use Rattle.recordwriter.specs.Record.{header, body, lineOf}
+use Rattle.digits.proofs.Laws.{hex-append}
+use Rattle.mcsline.specs.Record.{LF, COLON, Lf, endingText, lineText, Data, ExtendedLinearAddress, End, header, body, bodyOf, checksum, pairsOf, Row, recordText}
+use Rattle.mcsline.proofs.Laws.{summed-long}
+use Rattle.recordwriter.specs.Record.{lineOf}
 
 -- So many bytes from a place on are so many.
 pub span-long : (bytes : List ℕ) (from count : ℕ) → from + count ≤ length bytes → length (take count (drop from bytes)) ≡ count
@@ -24,10 +25,8 @@ module _ (kind address : ℕ) (bytes : List ℕ) where
       (sym (hex-append (body kind address bytes) sum ∙ ap (λ (l : List ℕ). l ++ hex sum) (hex-append (header kind address (length bytes)) bytes)))
 
   pub line-long : length (lineOf kind address bytes) ≡ 2 * length bytes + 12
-  unfolding lineText endingText
-  line-long =
-      let pairs = body kind address bytes ++ checksum (body kind address bytes) ∷ [] in
-      omega (arith, length-append (hex pairs) (LF ∷ []), hex-long pairs, length-append (body kind address bytes) (checksum (body kind address bytes) ∷ []))
+  unfolding endingText
+  line-long = omega (arith, summed-long (body kind address bytes) Lf)
 
 -- It is the record's text, of each type.
 pub data-text : (address : ℕ) (bytes : List ℕ) → recordText (Row (Data address bytes) Lf) ≡ lineOf 0x00 address bytes

@@ -11,7 +11,7 @@ use Rattle.fields.proofs.Laws.{Put, put-length, put-after}
 use Rattle.mcsline.specs.Record.{recordText}
 use Rattle.mcs.specs.Text.{fileText}
 use Rattle.canonical.specs.Canonical.{upperLine, upperLines, dataLine, recordLines, recordsOf, linesFrom, partText}
-use Rattle.canonical.proofs.Laws.{upper-here, upper-none, file-append, parts-join}
+use Rattle.canonical.proofs.Laws.{upper-here, upper-none, file-append, in-parts}
 use Rattle.recordwriter.specs.Record.{lineOf}
 use Rattle.recordwriter.proofs.LineLaws.{span-long, line-long, data-text, upper-text}
 
@@ -39,7 +39,7 @@ one-record at bytes some few =
 
 module _ (start : ℕ) (part : List ℕ) where
   -- After whole records comes one more.
-  pub next-record : (done count : ℕ) → done % 16 ≡ 0 → 1 ≤ count → count ≤ 16 → done + count ≤ length part →
+  next-record : (done count : ℕ) → done % 16 ≡ 0 → 1 ≤ count → count ≤ 16 → done + count ≤ length part →
       partText start (take (done + count) part) ≡ (partText start (take done part) ++ fileText (upperLines (start + done))) ++ lineOf 0x00 ((start + done) % 65536) (take count (drop done part))
   next-record done count whole some few room =
       let front = take done part in
@@ -47,12 +47,12 @@ module _ (start : ℕ) (part : List ℕ) where
       let front-long : length front ≡ done = length-take-le done part (omega arith) in
       let long = span-long part done count room in
       ap (λ (l : List ℕ). partText start l) (take-add done count part)
-      ∙ parts-join start front bytes (rw front-long whole)
+      ∙ in-parts .join start front bytes (rw front-long whole)
       ∙ ap (λ (l : List ℕ). partText start front ++ l) (ap (λ (n : ℕ). partText (start + n) bytes) front-long ∙ one-record (start + done) bytes (omega arith) (omega arith))
       ∙ sym (append-assoc (partText start front) (fileText (upperLines (start + done))) (lineOf 0x00 ((start + done) % 65536) bytes))
 
   -- Whole records, or all, are no longer than all.
-  pub front-within : (n : ℕ) → (n < length part → n % 16 ≡ 0) → length (partText start (take n part)) ≤ length (partText start part)
+  front-within : (n : ℕ) → (n < length part → n % 16 ≡ 0) → length (partText start (take n part)) ≤ length (partText start part)
   front-within n whole = ⊎-elim within (λ h. rw (take-all n part h) (omega arith)) (below-or-not n (length part))
     where
       within : n < length part → length (partText start (take n part)) ≤ length (partText start part)
@@ -60,7 +60,7 @@ module _ (start : ℕ) (part : List ℕ) where
           let front = take n part in
           let long : length front ≡ n = length-take-le n part (omega arith) in
           let parts : partText start part ≡ partText start front ++ partText (start + length front) (drop n part) =
-          ap (λ (l : List ℕ). partText start l) (sym (take-append-drop n part)) ∙ parts-join start front (drop n part) (rw long (whole h)) in
+          ap (λ (l : List ℕ). partText start l) (sym (take-append-drop n part)) ∙ in-parts .join start front (drop n part) (rw long (whole h)) in
           rw parts (omega (arith, length-append (partText start front) (partText (start + length front) (drop n part))))
 
 -- THE LOOP over the records of a part: so many bytes of it, whole records or all, were put at `to`, and `at` is the place after them.

@@ -8,12 +8,8 @@ ghost use Rattle.mcs.specs.Text.{fileText};
 ghost use Rattle.canonical.specs.Canonical.{upperLines, partText, endLine};
 use crate::record::put_record;
 use base::min;
-
-// Data records have 16 bytes, the last of an image fewer.
-const PER_RECORD: usize = 16;
-
-// Addresses have an upper half and a lower one.
-const SEGMENT: usize = 65_536;
+use canonical::PER_RECORD;
+use canonical::SEGMENT;
 
 // Where `place` in the image is a multiple of 65,536, its upper half's line at `at`; the place after it.
 fn put_upper(out: &mut [u8], at: usize, place: usize) -> usize

@@ -4,17 +4,14 @@ ghost use Prim.Native.Nat.{_+_, _*_, _<_, _≤_};
 ghost use mathlib.Core.List.{_∷_};
 ghost use lib.ListN.{length, take, drop};
 ghost use lib.Seq.{paste};
-ghost use Rattle.digits.specs.Digit.{hex, byteSum};
-ghost use Rattle.mcsline.specs.Record.{COLON as colon, checksum};
-ghost use Rattle.recordwriter.specs.Record.{header, body, lineOf};
+ghost use Rattle.digits.specs.Digit.{hex};
+ghost use Rattle.mcsline.specs.Record.{COLON as colon, header, body, checksum};
+ghost use Rattle.recordwriter.specs.Record.{lineOf};
 use mcsline::line::COLON;
 use mcsline::line::LF;
 use pairwriter::byte_sum;
 use pairwriter::put_pair;
 use pairwriter::put_pairs;
-
-// A line has so many characters beside two for each data byte.
-pub const AROUND: usize = 12;
 
 // The colon and the pairs before the data, at `at`: 9 characters.
 fn put_header(out: &mut [u8], at: usize, kind: u8, address: usize, count: usize)

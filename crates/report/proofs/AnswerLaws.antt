@@ -24,7 +24,7 @@ use Rattle.reportlines.specs.Reportlines.{loadedLine, writeLines, endLine, stuc
 use Rattle.report.specs.Boot.{reportOf, chipReport, chipAnswer, chipOutput}
 use Rattle.report.specs.Refusal.{written}
 use Rattle.base.specs.Output.{frontFilled}
-use Rattle.fields.proofs.Laws.{Put}
+use Rattle.fields.proofs.Laws.{Put, put-front}
 use Rattle.reportlines.proofs.Laws.{length-loaded, length-writes, length-end}
 
 -- A text that does not fit is refused, and the buffer stays as it was.
@@ -34,15 +34,10 @@ no-room text buffer h = (rw (lt-leb (length text) (length buffer) h) refl, rw (l
 
 -- A text that was put at the front of the buffer is the answer.
 pub put-answer : {text buffer after : List ℕ} {count : ℕ} → Put buffer 0 text count after → (written text (length buffer) ≡ Written count) × (frontFilled text buffer ≡ after)
-unfolding written frontFilled ask
+unfolding written ask
 put-answer {text} {buffer} {after} {count} p =
     let fits : length text ≤ length buffer = omega (arith, p .long, p .room) in
-    let place : length text ≡ 0 + count = p .long ∙ sym (zero-add count) in
-    let front : text ++ drop (length text) buffer ≡ after =
-    ap₂ (λ (s : List ℕ) (k : ℕ). s ++ drop k buffer) (sym (take-all count text (omega (arith, p .long)))) place ∙ sym (p .is) in (
-      rw (le-leb (length text) (length buffer) fits) (ap Written (p .long)),
-      rw (le-leb (length text) (length buffer) fits) front,
-    )
+    (rw (le-leb (length text) (length buffer) fits) (ap Written (p .long)), put-front p)
 
 -- What a boot answer says of question 1 and of the reading.
 unfoldable pub Says : List ℕ → Bool → Outcome → BootAnswer → Type 0

@@ -17,7 +17,8 @@ use Rattle.packets.specs.Trace.{Before, other, Mode, header, payload, modeOf, a
 use Rattle.scanner.specs.Scan.{scanned, beforeOf, scannedFrom, scannedBy, scanOf, scannerFrom, scannerAfterHeader, scannerStopped, scannerAtWrite, scannerAfterPacket, scannerAtEnd, InBoundsBy, bytesLeft, StepKeeps, ScanResult, ScanReached, ScanFinished}
 use Rattle.scanner.specs.Types.{Effect, GoesOn, Desync, EffectIprog, Finish, FinishEnded, FinishIprog, FinishShort, WriteAnswer, WriteFound, NoWrite, Scanner, Status, Going, AtWrite, AtEnd, AtIprog, AtFault, AtShort, FinishFault}
 use Rattle.packets.proofs.Laws.{trace-header, trace-fault, trace-data, trace-desync, trace-iprog}
-use Rattle.framing.proofs.Laws.{words-cons, nil-of-length, words-on, word-after, room}
+use Rattle.base.proofs.Laws.{nil-of-length}
+use Rattle.framing.proofs.Laws.{words-cons, words-on, word-after, room}
 
 -- One header.
 

@@ -14,7 +14,8 @@ use Rattle.writes.specs.Next.{stepAt, stepWith}
 use Rattle.writes.specs.Types.{Cursor, CursorStep, Wrote, Done, NextData, NoData}
 use Rattle.packets.proofs.Laws.{trace-header}
 use Rattle.writes.proofs.CursorLaws.{step-remaining}
-use Rattle.framing.proofs.Laws.{words-cons, nil-of-length}
+use Rattle.base.proofs.Laws.{nil-of-length}
+use Rattle.framing.proofs.Laws.{words-cons}
 
 pub some-payload : (n register : ℕ) (before : Before) → 0 < n → modeOf n register before ≡ payload register (n - 1)
 unfolding modeOf

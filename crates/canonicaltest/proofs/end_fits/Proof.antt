@@ -1,9 +1,8 @@
 -- `end_fits` meets its contract.
 use mathlib.Core.Path.{refl}
-use native.Mathlib.Omega.{arith}
-use borrow.Author.Tests.{eq-eqb, ne-eqb, le-leb, lt-leb}
+use borrow.Author.Needs.{needs}
+use borrow.Author.Tests.{eq-eqb, ne-eqb}
 use Rattle.base.specs.Question.{ask}
-use Rattle.canonical.specs.Canonical.{writable}
 use Rattle.canonical.specs.Pass.{endFits}
 use Rattle.canonicaltest.proofs.end_fits.Statement.{statement}
 use Rattle.canonicaltest.proofs.end_fits.Tie as tie
@@ -16,13 +15,12 @@ returns-2 : tie.Need-returns-2
 unfolding endFits ask
 returns-2 c = rw (c .before .if1 .left, ne-eqb _ _ (c .if2 .taken)) refl
 
-returns-3 : tie.Need-returns-3
-unfolding endFits ask writable
-returns-3 c = rw (c .before .before .if1 .left, eq-eqb _ _ (c .before .if2 .left), lt-leb 1 (c .before .before .before .args .next) (omega arith)) refl
+image-length-allowed-requires : tie.Need-image-length-allowed-requires
+image-length-allowed-requires c κs = search needs
 
-returns-4 : tie.Need-returns-4
-unfolding endFits ask writable
-returns-4 c = rw (c .before .before .if1 .left, eq-eqb _ _ (c .before .if2 .left), le-leb 1 (c .before .before .before .args .next) (omega arith)) refl
+returns-3 : tie.Need-returns-3
+unfolding endFits ask
+returns-3 c = rw (c .before .before .if1 .left, eq-eqb _ _ (c .before .if2 .left)) (c .image-length-allowed .ensures)
 
 pub end-fits-spec : {M : Type 1} → statement M
-end-fits-spec = tie.close (tie.spec returns returns-2 returns-3 returns-4)
+end-fits-spec = tie.close (tie.spec returns returns-2 image-length-allowed-requires returns-3)

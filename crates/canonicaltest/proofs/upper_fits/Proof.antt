@@ -15,16 +15,12 @@ returns-2 : tie.Need-returns-2
 unfolding upperFits ask
 returns-2 c = rw (c .before .if1 .left, ne-eqb _ _ (c .if2 .taken)) refl
 
-returns-3 : tie.Need-returns-3
-unfolding upperFits ask
-returns-3 c = rw (c .before .before .if1 .left, eq-eqb _ _ (c .before .if2 .left), ne-eqb _ _ (c .if3 .taken)) refl
-
 add-result : tie.Need-add-result
 add-result c = search needs
 
-returns-4 : tie.Need-returns-4
+returns-3 : tie.Need-returns-3
 unfolding upperFits ask
-returns-4 c = rw (c .before .before .if1 .left, eq-eqb _ _ (c .before .if2 .left), eq-eqb _ _ (c .if3 .left)) refl
+returns-3 c = rw (c .before .if1 .left, eq-eqb _ _ (c .if2 .left)) refl
 
 pub upper-fits-spec : {M : Type 1} → statement M
-upper-fits-spec = tie.close (tie.spec returns returns-2 returns-3 add-result returns-4)
+upper-fits-spec = tie.close (tie.spec returns returns-2 add-result returns-3)

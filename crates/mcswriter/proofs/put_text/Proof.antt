@@ -1,18 +1,15 @@
 -- `put_text` meets its contract: the part's lines at the front, and the end record's after them.
-use Prim.Native.Nat.{ℕ, _+_, _≤_}
-use mathlib.Core.Path.{_≡_, refl, sym, ap₂, _∙_}
-use mathlib.Core.List.{List, _++_}
+use Prim.Native.Nat.{_+_}
+use mathlib.Core.Path.{refl, sym}
+use mathlib.Core.List.{_++_}
 use native.Mathlib.Omega.{arith}
 use borrow.Author.Needs.{needs}
-use lib.ListN.{length, drop}
-use lib.Seq.{paste, take-length}
-use Rattle.base.specs.Output.{frontFilled}
-use Rattle.base.proofs.Laws.{front-fits}
-use Rattle.fields.proofs.Laws.{Put, put-after, put-whole}
+use lib.ListN.{length}
+use Rattle.fields.proofs.Laws.{Put, put-after, put-front}
 use Rattle.mcsline.specs.Record.{recordText}
 use Rattle.canonical.specs.Canonical.{partText, endLine, canonicalText}
-use Rattle.canonical.proofs.Laws.{end-long}
-use Rattle.mcswriter.proofs.WriterLaws.{text-parts, parts-long}
+use Rattle.canonical.proofs.Laws.{in-parts, end-long}
+use Rattle.mcswriter.proofs.WriterLaws.{parts-long}
 use Rattle.mcswriter.proofs.put_text.Statement.{statement}
 use Rattle.mcswriter.proofs.put_text.Tie as tie
 
@@ -25,12 +22,6 @@ put-end-requires c κs = let l = parts-long (c .before .before .before .before .
 same-length : tie.Need-same-length
 same-length c = search needs
 
--- a text put at the front, with the rest as it was
-front-put : (before text after : List ℕ) → length text ≤ length before → after ≡ paste before 0 text (length text) → after ≡ frontFilled text before
-front-put before text after room e =
-    let n : 0 + length text ≡ length text = omega arith in
-    e ∙ ap₂ (λ (l : List ℕ) (k : ℕ). l ++ drop k before) (take-length text) n ∙ sym (front-fits text before room)
-
 returns : tie.Need-returns
 returns c =
     let begun = c .before .before .before .before .before .before .before .before .before .before in
@@ -42,7 +33,7 @@ returns c =
     let first : Put out 0 (partText 0 image) (length (partText 0 image)) (part .last .1 .1 .0) = record { long = refl; room = omega arith; is = part .ensures .1 } in
     let both : Put out 0 (partText 0 image ++ recordText endLine) (length (partText 0 image) + 12) (end .last .0) =
     put-after first (part .result) (recordText endLine) 12 (end .last .0) (part .ensures .0) end-long (omega arith) (end .ensures .1) in
-    front-put out (canonicalText image) (end .last .0) (omega arith) (rw (text-parts image) (put-whole both))
+    rw (in-parts .whole image) (sym (put-front both))
 
 pub put-text-spec : {M : Type 1} → statement M
 put-text-spec = tie.close (tie.spec put-part-requires put-end-requires same-length returns)

@@ -3,7 +3,8 @@ use mathlib.Core.Path.{sym, ap, _∙_}
 use native.Mathlib.Omega.{arith}
 use borrow.Author.Needs.{needs}
 use Rattle.base.proofs.Laws.{gives}
-use Rattle.canonical.proofs.Laws.{writable-range}
+use Rattle.kind.specs.Layout.{longestChip}
+use Rattle.kind.proofs.Laws.{image-length-range}
 use Rattle.mcswriter.specs.Mcswriter.{textNumbers}
 use Rattle.mcswriter.specs.Types.{Text}
 use Rattle.mcswriter.proofs.WriterLaws.{refused-back, length-refused, length-is, no-room, with-room, written-back}
@@ -27,7 +28,7 @@ put-text-requires : tie.Need-put-text-requires
 put-text-requires c κs =
     let args = c .before .before .before .before .before .before .before .before .args in
     let l = length-is (args .image .now) (args .out .now) _ (sym (c .before .before .before .before .before .text-length .ensures .same) ∙ c .before .before .before .sized .given .1) in
-    (writable-range _ (l .0) .1, omega arith)
+    (image-length-range longestChip _ (l .0) .1, omega arith)
 
 enum-known-sized-2 : tie.Need-enum-known-sized-2
 enum-known-sized-2 c = search needs

@@ -9,8 +9,8 @@ use lib.Seq.{paste}
 use Rattle.digits.specs.Digit.{hex}
 use Rattle.digits.proofs.Laws.{hex-long}
 use Rattle.fields.proofs.Laws.{Put, paste-one, put-length, put-then, put-after}
-use Rattle.mcsline.specs.Record.{LF, COLON, checksum}
-use Rattle.recordwriter.specs.Record.{header, body, lineOf}
+use Rattle.mcsline.specs.Record.{LF, COLON, checksum, header, body}
+use Rattle.recordwriter.specs.Record.{lineOf}
 use Rattle.recordwriter.proofs.LineLaws.{span-long, line-parts}
 use Rattle.recordwriter.proofs.record.put_record.Statement.{statement}
 use Rattle.recordwriter.proofs.record.put_record.Tie as tie

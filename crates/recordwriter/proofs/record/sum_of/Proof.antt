@@ -5,8 +5,7 @@ use native.Mathlib.Omega.{arith}
 use borrow.Author.Needs.{needs}
 use lib.ListN.{take, drop}
 use Rattle.digits.specs.Digit.{byteSum}
-use Rattle.mcsline.specs.Record.{checksum}
-use Rattle.recordwriter.specs.Record.{body}
+use Rattle.mcsline.specs.Record.{checksum, body}
 use Rattle.recordwriter.proofs.LineLaws.{span-long}
 use Rattle.recordwriter.proofs.record.sum_of.Statement.{statement}
 use Rattle.recordwriter.proofs.record.sum_of.Tie as tie
