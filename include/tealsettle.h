@@ -9,9 +9,9 @@
  * tealsettle_loads says it.
  *
  * Every proved function takes numbers and byte slices (a pointer, then a length) and returns a plain struct; only
- * tealsettle_mcs_form returns a number, 1 or 0. None asks anything of its numbers and bytes: every input gets an answer or a numbered refusal. Not proved is the little that is plain
- * C: the inline functions below, which only hand on what they are given, tealsettle_version, and tealsettle_update, which is
- * a loop over the proved calls (library/update.c).
+ * tealsettle_mcs_form returns a number, 1 or 0. None asks anything of its numbers and bytes: every input gets an answer or a
+ * numbered refusal. Not proved is the little that is plain C: the inline functions below, which only hand on what they are
+ * given, tealsettle_version, and tealsettle_update, which is a loop over the proved calls (library/update.c).
  *
  * Memory stays the caller's: no function keeps a pointer, allocates, prints or stops the program. None has memory of its
  * own, so several threads may call them at once, each on its own chip. A `const` slice is only read. A refusal leaves every

@@ -62,6 +62,12 @@ static int try_far_lengths(void)
 
 /* ---- Texts ---- */
 
+/* Whether all of these bytes are as they were set: the first is, and each next is as the one before it. */
+static int as_before(const uint8_t *rest, size_t length)
+{
+    return rest[0] == 0x5A && memcmp(rest, rest + 1, length - 1) == 0;
+}
+
 /* Into a buffer of so many bytes: this number, the text in front or none, and all else as it was. */
 static int text_differs(uint32_t number, size_t n, size_t room)
 {
@@ -72,7 +78,8 @@ static int text_differs(uint32_t number, size_t n, size_t room)
     return differs("reference: number", reference_mcs_write(image, n, theirs, room, &length), number) ||
            differs("reference: length", length, expected) ||
            answer_differs("the text's number", tealsettle_mcs_write(image, n, ours, room), number, expected) ||
-           bytes_differ("bytes of the text, and those after it", ours, theirs, room + MARGIN);
+           bytes_differ("bytes of the text, and those after it", ours, theirs, room + MARGIN) ||
+           differs("the rest is as it was", (size_t)as_before(ours + expected, room + MARGIN - expected), 1);
 }
 
 /* The text that was written last holds the image, and is in the form. */

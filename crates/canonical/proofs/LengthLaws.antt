@@ -1,7 +1,7 @@
 -- How long the text is.
 use Prim.Native.Nat.{ℕ, zero, suc, _+_, _*_, _/_, _%_, _<_, _≤_}
 use mathlib.Core.Path.{_≡_, refl, sym, ap, _∙_}
-use mathlib.Core.List.{List, [], _∷_, _++_, append-nil, append-assoc}
+use mathlib.Core.List.{List, [], _∷_, _++_}
 use mathlib.Core.Logic.{_⊎_, inl, inr}
 use native.Mathlib.Omega.{arith}
 use lib.ListN.{length, length-append}
@@ -9,7 +9,7 @@ use Rattle.base.proofs.Laws.{below-or-not, equal-or-not}
 use Rattle.mcsline.specs.Record.{Lf, endingText, Data, ExtendedLinearAddress, End, bodyOf, Line, recordText}
 use Rattle.mcsline.proofs.Laws.{record-long}
 use Rattle.mcs.specs.Text.{fileText}
-use Rattle.canonical.specs.Canonical.{upperLine, upperLines, dataLine, recordLines, partLines, partText, endLine, canonicalText, shorterLength, canonicalLength}
+use Rattle.canonical.specs.Canonical.{upperLine, upperLines, dataLine, partLines, partText, endLine, canonicalText, shorterLength}
 use Rattle.canonical.specs.Theorems.{TextLong}
 use Rattle.canonical.proofs.PartLaws.{upper-here, upper-none, file-append, part-none, Piece, part-first, by-records, in-parts}
 

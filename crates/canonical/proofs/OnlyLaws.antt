@@ -1,15 +1,14 @@
 -- Lines that are a file and keep the rules are those that the image's text has: so there is only one text.
 use Prim.Native.Nat.{ℕ, _+_, _*_, _/_, _%_, _<_, _≤_}
 use mathlib.Core.Path.{_≡_, refl, sym, ap, ap₂, _∙_}
-use mathlib.Core.Bool.{true, false}
+use mathlib.Core.Bool.{false}
 use mathlib.Core.List.{List, [], _∷_, _++_, append-assoc, append-nil}
 use native.Mathlib.Omega.{arith}
 use borrow.Author.Tests.{eqb-true, eqb-false}
-use lib.Dec.{eqb}
 use lib.ListN.{length, length-append}
 use Rattle.base.proofs.Laws.{false-true}
-use Rattle.mcsline.specs.Record.{Ending, Lf, Data, ExtendedLinearAddress, End, Line, Row, Fit}
-use Rattle.mcs.specs.Text.{fileText, FileFrom, FileOf}
+use Rattle.mcsline.specs.Record.{Ending, Data, ExtendedLinearAddress, End, Line, Row, Fit}
+use Rattle.mcs.specs.Text.{fileText, FileFrom}
 use Rattle.mcs.specs.Reading.{Holds, readText}
 use Rattle.mcs.proofs.Laws.{round-trip}
 use Rattle.canonical.specs.Canonical.{upperLine, upperLines, dataLine, partLines, endLine, canonicalLines, canonicalText}

@@ -1,16 +1,14 @@
 -- The text of an image is that of a file of it, and is in the form.
 use Prim.Native.Nat.{ℕ, _+_, _*_, _/_, _%_, _<_, _≤_}
 use mathlib.Core.Path.{_≡_, refl, sym, ap, subst, _∙_}
-use mathlib.Core.Bool.{Bool, true, false}
+use mathlib.Core.Bool.{true, false}
 use mathlib.Core.List.{List, [], _∷_, _++_, append-assoc, append-nil}
 use mathlib.Core.Logic.{_⊎_, inl, inr}
 use native.Mathlib.Omega.{arith}
-use borrow.Author.Tests.{eq-eqb, ne-eqb, leb-true}
-use lib.Dec.{eqb, leb}
+use borrow.Author.Tests.{eq-eqb, ne-eqb}
 use lib.ListN.{length, length-append}
-use Rattle.base.specs.Question.{ask}
-use Rattle.base.proofs.Laws.{equal-or-not, asked, false-true}
-use Rattle.mcsline.specs.Record.{Lf, Data, ExtendedLinearAddress, End, Line, Row, AllBytes, Fit}
+use Rattle.base.proofs.Laws.{equal-or-not}
+use Rattle.mcsline.specs.Record.{Data, Line, AllBytes, Fit}
 use Rattle.mcsline.proofs.Laws.{bytes-apart}
 use Rattle.mcs.specs.Text.{FileFrom, FileOf}
 use Rattle.kind.specs.Layout.{longestChip}

@@ -3,12 +3,11 @@ use Prim.Native.Nat.{ℕ, _+_, _*_, _<_, _≤_}
 use mathlib.Core.Path.{_≡_, refl, sym, ap, ap₂, subst, _∙_}
 use mathlib.Core.Bool.{Bool, true, false}
 use mathlib.Core.List.{List, _++_}
-use native.Mathlib.Nat.{zero-add}
 use native.Mathlib.Omega.{arith}
 use borrow.Author.Tests.{leb-true, leb-false, le-leb, lt-leb}
-use lib.ListN.{length, drop, length-append}
+use lib.ListN.{length, length-append}
 use lib.Dec.{leb}
-use lib.Seq.{paste, take-all}
+use lib.Seq.{paste}
 use Rattle.kind.specs.Spi.{spi}
 use Rattle.base.specs.Question.{ask}
 use Rattle.configreader.specs.Configreader.{readChip, listed}

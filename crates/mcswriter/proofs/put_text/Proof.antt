@@ -7,7 +7,7 @@ use borrow.Author.Needs.{needs}
 use lib.ListN.{length}
 use Rattle.fields.proofs.Laws.{Put, put-after, put-front}
 use Rattle.mcsline.specs.Record.{recordText}
-use Rattle.canonical.specs.Canonical.{partText, endLine, canonicalText}
+use Rattle.canonical.specs.Canonical.{partText, endLine}
 use Rattle.canonical.proofs.Laws.{in-parts, end-long}
 use Rattle.mcswriter.proofs.WriterLaws.{parts-long}
 use Rattle.mcswriter.proofs.put_text.Statement.{statement}

@@ -1,8 +1,8 @@
 -- `text_result` meets its contract.
-use Rattle.mcswriter.specs.Mcswriter.{textNumbers}
-use Rattle.hosttexts.specs.Result.{textResult}
 use mathlib.Core.Path.{refl}
 use borrow.Author.Needs.{needs}
+use Rattle.mcswriter.specs.Mcswriter.{textNumbers}
+use Rattle.hosttexts.specs.Result.{textResult}
 use Rattle.hosttexts.proofs.result.text_result.Statement.{statement}
 use Rattle.hosttexts.proofs.result.text_result.Tie as tie
 

@@ -1,8 +1,8 @@
 -- `tealsettle_mcs_form` meets its contract.
-use Rattle.base.specs.Question.{ask}
-use Rattle.hosttexts.specs.Writing.{formCall}
 use mathlib.Core.Path.{refl, sym, _∙_}
 use borrow.Author.Needs.{needs}
+use Rattle.base.specs.Question.{ask}
+use Rattle.hosttexts.specs.Writing.{formCall}
 use Rattle.hosttexts.proofs.writing.tealsettle_mcs_form.Statement.{statement}
 use Rattle.hosttexts.proofs.writing.tealsettle_mcs_form.Tie as tie
 

@@ -1,7 +1,7 @@
 -- `tealsettle_mcs_length` meets its contract.
-use Rattle.hosttexts.specs.Result.{textResult}
 use mathlib.Core.Path.{ap, _∙_}
 use borrow.Author.Needs.{needs}
+use Rattle.hosttexts.specs.Result.{textResult}
 use Rattle.hosttexts.proofs.writing.tealsettle_mcs_length.Statement.{statement}
 use Rattle.hosttexts.proofs.writing.tealsettle_mcs_length.Tie as tie
 

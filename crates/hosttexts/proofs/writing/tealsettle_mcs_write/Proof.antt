@@ -1,8 +1,8 @@
 -- `tealsettle_mcs_write` meets its contract.
-use Rattle.hosttexts.specs.Result.{textResult}
-use Rattle.hosttexts.proofs.BackLaws.{host-back}
 use mathlib.Core.Path.{ap, _∙_}
 use borrow.Author.Needs.{needs}
+use Rattle.hosttexts.specs.Result.{textResult}
+use Rattle.hosttexts.proofs.BackLaws.{host-back}
 use Rattle.hosttexts.proofs.writing.tealsettle_mcs_write.Statement.{statement}
 use Rattle.hosttexts.proofs.writing.tealsettle_mcs_write.Tie as tie
 
