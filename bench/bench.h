@@ -76,9 +76,8 @@ typedef struct {
     const Made *made;
 } Process;
 
-/* A job, and its answer: a file that is not right ends the program. */
-int run_process(void *context);
-Answer process_answer(void *context);
+/* A row of a job from file to file: ours beside another program. A file that is not right ends the benchmark. */
+void process_row(const char *job, size_t bytes, Process *ours, Process *peer);
 
 /* ---- Inputs ---- */
 

@@ -63,12 +63,9 @@ void mcs_file_rows(const char *directory, char *self)
     char *srec_cat_command[] = {"srec_cat", in, "-Intel", "-o", peer_out, "-Binary", NULL};
     Process ours = {ours_command, ours_out, is_image, &made}, objcopy = {objcopy_command, peer_out, is_image, &made},
             srec_cat = {srec_cat_command, peer_out, is_image, &made};
-    Row row = {"MCS text to image, file to file", made.length, {"tealsettle", run_process, process_answer, &ours},
-               {"objcopy", run_process, process_answer, &objcopy}};
-    table_row(&row);
+    process_row("MCS text to image, file to file", made.length, &ours, &objcopy);
     unlink(peer_out);
-    row.peer = (Side){"srec_cat", run_process, process_answer, &srec_cat};
-    table_row(&row);
+    process_row("MCS text to image, file to file", made.length, &ours, &srec_cat);
     free_text(made);
 }
 

@@ -80,12 +80,9 @@ void mcs_write_file_rows(const char *directory, char *self)
     char *srec_cat_command[] = {"srec_cat", in, "-Binary", "-o", peer_out, "-Intel", "-obs=16", NULL};
     Process ours = {ours_command, ours_out, is_text, &made}, objcopy = {objcopy_command, peer_out, has_data, &made},
             srec_cat = {srec_cat_command, peer_out, is_text, &made};
-    Row row = {"image to MCS text, file to file", MIB16, {"tealsettle", run_process, process_answer, &ours},
-               {"objcopy", run_process, process_answer, &objcopy}};
-    table_row(&row);
+    process_row("image to MCS text, file to file", MIB16, &ours, &objcopy);
     unlink(peer_out);
-    row.peer = (Side){"srec_cat", run_process, process_answer, &srec_cat};
-    table_row(&row);
+    process_row("image to MCS text, file to file", MIB16, &ours, &srec_cat);
     free_text(made);
 }
 

@@ -8,7 +8,7 @@
 
 extern char **environ;
 
-int run_process(void *context)
+static int run_process(void *context)
 {
     Process *p = context;
     pid_t pid;
@@ -26,7 +26,7 @@ int run_process(void *context)
     return 1;
 }
 
-Answer process_answer(void *context)
+static Answer process_answer(void *context)
 {
     Process *p = context;
     size_t length;
@@ -38,4 +38,10 @@ Answer process_answer(void *context)
         exit(1);
     }
     return (Answer){{"the file is the one that it must be"}, {1}};
+}
+
+void process_row(const char *job, size_t bytes, Process *ours, Process *peer)
+{
+    Row row = {job, bytes, {"tealsettle", run_process, process_answer, ours}, {peer->command[0], run_process, process_answer, peer}};
+    table_row(&row);
 }
