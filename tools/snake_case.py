@@ -25,7 +25,7 @@ MET = {"ending_of", "is_digit", "no_room", "past_end"}
 
 
 def camel(name):
-    return name[0].islower() and re.search(r"[a-z0-9'][A-Z]", name)
+    return name[0].islower() and not name.startswith("b'") and re.search(r"[a-z0-9'][A-Z]", name)
 
 
 def dashed(name):

@@ -1,5 +1,7 @@
 // The bench: a run on the bytes of a chip, whose power is cut after a number of orders. Bench is document
 // 01's term.
+#![tactic(auto)]
+
 ghost use Rattle.std.specs.Prelude.{◌<◌, ◌≡◌, true, length, drop};
 ghost use Rattle.base.specs.Answer.{Gives};
 ghost use Rattle.base.specs.Question.{ask};

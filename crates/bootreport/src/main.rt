@@ -1,6 +1,8 @@
 // Reads an image file (MCS text) from standard input and prints what a chip built with its image
 // loads, or why there is no such chip. All of that is `filereport::report`; here it is read and
 // written.
+#![tactic(auto)]
+
 ghost use Rattle.std.specs.Prelude.{◌≡◌, length};
 ghost use Rattle.filereport.specs.Filereport.{file_report, file_output};
 

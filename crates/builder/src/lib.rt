@@ -1,4 +1,6 @@
 // The first chip of a printer: a golden image, segment 1's words, and nothing else.
+#![tactic(auto)]
+
 ghost use Rattle.std.specs.Prelude.{◌≡◌, ◌+◌, ◌≤◌, length};
 ghost use Rattle.kind.specs.Spi.{spi};
 ghost use Rattle.base.specs.Answer.{Gives};

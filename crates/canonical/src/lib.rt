@@ -3,6 +3,8 @@
 // code that writes and tests it is in the crates above.
 
 // A data record has so many bytes, and the last of an image what is left.
+#![tactic(auto)]
+
 pub const PER_RECORD: usize = 16;
 
 // A type 04 record comes before the data at each multiple of this.

@@ -1,4 +1,6 @@
 // Whether a text is in the canonical form, in one pass over its lines.
+#![tactic(auto)]
+
 ghost use Rattle.std.specs.Prelude.{◌≡◌};
 ghost use Rattle.digits.specs.Table.{DigitTable};
 ghost use Rattle.canonical.specs.Pass.{data_fits, upper_fits, end_fits, text_passes};

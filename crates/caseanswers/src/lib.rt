@@ -1,6 +1,8 @@
 // What is printed of the answer to a case: words, numbers and bytes, each with a space before it. For the crates
 // above it alone, which are the parts of a test program: of its functions no more is proved than that they are
 // safe and end.
+#![tactic(auto)]
+
 use caselines::words::{NOTHING, REFUSED, STATE};
 use digits::digit::characters;
 

@@ -1,5 +1,7 @@
 // What a line asks: the word of a call, with its numbers and with its bytes, if it has those that the word wants.
 // For the program above it alone: no more is proved here than that its functions are safe and end.
+#![tactic(auto)]
+
 ghost use Rattle.std.specs.Prelude.{◌≤◌, length};
 
 use base::min;

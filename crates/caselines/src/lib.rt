@@ -2,6 +2,8 @@
 // it alone, which are the parts of a test program: of most functions no more is proved than that they are safe
 // and end.
 
+#![tactic(auto)]
+
 pub mod parse;
 pub mod words;
 

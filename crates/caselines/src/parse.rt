@@ -85,7 +85,7 @@ fn digit(c: u8) -> usize
 {
     match c {
         b'0'..=b'9' => (c - 48) as usize,
-        b'_a'..=b'_f' => (c - 55) as usize,
+        b'A'..=b'F' => (c - 55) as usize,
         _ => 256,
     }
 }

@@ -1,5 +1,7 @@
 // The cases of what loads: the calls on a chip's bytes and on an image by itself, each with its answer printed.
 // For the program above it alone: no more is proved here than that each call is safe and ends.
+#![tactic(auto)]
+
 ghost use Rattle.std.specs.Prelude.{◌+◌, ◌*◌, ◌≤◌, length};
 
 use bootreader::{boot as loader, image};

@@ -1,5 +1,7 @@
 // Bytes that were read, compared with those expected there: some, and then FF. For the crates above it
 // alone: its functions ask their caller for no more bytes than a page has.
+#![tactic(auto)]
+
 ghost use Rattle.std.specs.Prelude.{◌≤◌, ◌≡◌, true, length};
 ghost use Rattle.kind.specs.Layout.{page, longest_chip};
 ghost use Rattle.flash.specs.Flash.{erased};

@@ -1,6 +1,8 @@
 // The configuration reader, from sync to sync: the search hands over to the reading of packets, and a jump hands
 // back to the search. The number of jumps left falls. The calls on a chip and on an image stand above, in
 // `bootreader`.
+#![tactic(auto)]
+
 ghost use Rattle.std.specs.Prelude.{◌≡◌, ◌+◌, ◌≤◌, length};
 ghost use Rattle.configreader.specs.Configreader.{read_from, read_at, jump, read_chip, read_alone};
 

@@ -10,8 +10,8 @@ pub fn characters() -> [u8; 16]
     ensures { result ≡ digits }
 {
     [
-        b'0', b'1', b'2', b'3', b'4', b'5', b'6', b'7', b'8', b'9', b'_a', b'_b', b'_c', b'_d', b'_e',
-        b'_f',
+        b'0', b'1', b'2', b'3', b'4', b'5', b'6', b'7', b'8', b'9', b'A', b'B', b'C', b'D', b'E',
+        b'F',
     ]
 }
 

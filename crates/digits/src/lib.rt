@@ -2,6 +2,8 @@
 // value is looked up in (`table`). For the crates above it alone: its functions ask their caller for the table and for
 // places within the text.
 
+#![tactic(auto)]
+
 pub mod digit;
 pub mod pairs;
 pub mod table;

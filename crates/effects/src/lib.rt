@@ -1,5 +1,7 @@
 // A run on the bytes of a chip that obeys: the run's state and the chip after a number of orders. For the bench
 // alone: its functions ask their caller for a run's first state.
+#![tactic(auto)]
+
 ghost use Rattle.std.specs.Prelude.{min, ◌≡◌, true, length};
 ghost use Rattle.kind.specs.Spi.{spi};
 ghost use Rattle.orders.specs.Table.{total};

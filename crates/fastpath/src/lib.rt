@@ -1,5 +1,7 @@
 // Whole packets passed at once, where packets are small. For the crate above it alone: its functions ask their
 // caller for a scanner that goes on.
+#![tactic(auto)]
+
 ghost use Rattle.std.specs.Prelude.{◌≡◌, true, ℕ, ◌+◌, ◌<◌, ◌≤◌, length, get_or, drop};
 ghost use Rattle.framing.specs.Words.{words, word_at};
 ghost use Rattle.packets.specs.Header.{register_ok, head_of, effect_of};

@@ -1,5 +1,7 @@
 // Text and numbers, written into a buffer from a place on. A field is a number and the byte after it. For the
 // crates above it alone: its functions ask their caller for a buffer with room for what they write.
+#![tactic(auto)]
+
 ghost use Rattle.std.specs.Prelude.{◌≡◌, ◌+◌, ◌<◌, ◌≤◌, [], ◌∷◌, ◌++◌, length};
 ghost use Rattle.std.proofs.Math.Seq.{paste};
 ghost use Rattle.fields.specs.Fields.{decimal};

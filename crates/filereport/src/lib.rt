@@ -1,5 +1,7 @@
 // The report of an image file: a chip is built with its image as the golden one, and the report says
 // what that chip loads.
+#![tactic(auto)]
+
 ghost use Rattle.std.specs.Prelude.{◌≡◌, length};
 ghost use Rattle.base.specs.Answer.{Gives};
 ghost use Rattle.report.specs.Refusal.{report_numbers, written};

@@ -1,4 +1,6 @@
 // What a flash chip does to its bytes when it obeys. A span that does not lie within them is refused and changes nothing.
+#![tactic(auto)]
+
 ghost use Rattle.std.specs.Prelude.{◌≡◌, ◌+◌, leb, length, replicate};
 ghost use Rattle.base.specs.Answer.{Gives};
 ghost use Rattle.base.specs.Refusal.{no_room_law};

@@ -1,4 +1,6 @@
 // The accepted image with most writes for its length, and how many it has.
+#![tactic(auto)]
+
 ghost use Rattle.std.specs.Prelude.{◌≡◌, [], ◌∷◌, ◌+◌, ◌≤◌, length};
 ghost use Rattle.base.specs.Answer.{Gives};
 ghost use Rattle.base.specs.Output.{front_filled};

@@ -3,6 +3,8 @@
 // chip (`build`), updating one (`run`), and a run that is cut (`cut`). Image files, lists and reports are in crate
 // `hostfiles`, MCS text in `hosttexts`.
 
+#![tactic(auto)]
+
 pub mod boot;
 pub mod build;
 pub mod cut;

@@ -3,6 +3,8 @@
 // writes of a chip or an image one after the other (`list`), the image with most writes (`most`), and the report of what a
 // chip loads as text (`reporting`). MCS text is in crate `hosttexts`.
 
+#![tactic(auto)]
+
 pub mod form;
 pub mod list;
 pub mod most;

@@ -1,4 +1,6 @@
 // What a file with an image is, told by its bytes, never by its name.
+#![tactic(auto)]
+
 ghost use Rattle.std.specs.Prelude.{◌≡◌, ◌+◌, ◌<◌, ◌≤◌, length, drop};
 ghost use Rattle.base.specs.Answer.{Gives};
 ghost use Rattle.framing.specs.Search.{begins_with};

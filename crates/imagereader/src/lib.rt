@@ -1,6 +1,8 @@
 // A reader of an image that holds the image and the next place. It gives the packets of the image that
 // have data words, one a call, and the fault that the image check finds, where it comes to it. No byte
 // is copied, and of a packet's data words only those of CMD are looked at.
+#![tactic(auto)]
+
 ghost use Rattle.std.specs.Prelude.{◌≡◌, ◌+◌, ◌*◌, ◌≤◌, length, get_or, drop};
 ghost use Rattle.framing.specs.Words.{words};
 ghost use Rattle.base.specs.Answer.{Gives};

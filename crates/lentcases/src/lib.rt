@@ -1,6 +1,8 @@
 // The cases of calls that are lent bytes to change: a chip is built, a run on a chip is cut, a text is read. Each is
 // called as the C host calls it, and its answer is printed, the bytes last. F, U and A are the numbers f, g and h
 // of a line. For the program above it alone: no more is proved here than that each call is safe and ends.
+#![tactic(auto)]
+
 use caseanswers as say;
 use caseasks::{Case, copy_field, field};
 use caselines::parse::Numbers;

@@ -1,5 +1,7 @@
 // The report of a chip that loads: its first line, a line for each write, its last line. For the crate above
 // it alone: it asks its caller for a buffer with room for all of it.
+#![tactic(auto)]
+
 ghost use Rattle.std.specs.Prelude.{◌≡◌, ◌++◌, ◌+◌, ◌*◌, ◌≤◌, leb, length};
 ghost use Rattle.std.proofs.Math.Seq.{paste};
 ghost use Rattle.writes.specs.Cursor.{remaining_writes};

@@ -1,6 +1,8 @@
 // The orders of a run, by the table of document 01: how many a phase has, what each is, and how a reply to it
 // is judged (`judging`). An order is an operation on the chip that the run asks for: an erase, a program or a
 // look. For the crates above it alone: its functions ask their caller for an index that the phase has.
+#![tactic(auto)]
+
 ghost use Rattle.std.specs.Prelude.{◌≡◌, ℕ, ◌+◌, ◌*◌, ◌<◌, ◌≤◌, List, length};
 ghost use Rattle.kind.specs.Layout.{page, longest_chip};
 ghost use Rattle.kind.specs.Spi.{spi, spi_on};

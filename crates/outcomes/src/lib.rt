@@ -1,5 +1,7 @@
 // How many words a cut can leave in the switch segment, and how many of them are ON on an SPI chip. A word is a number
 // here, its high byte first on the chip.
+#![tactic(auto)]
+
 ghost use Rattle.std.specs.Prelude.{◌≡◌};
 ghost use Rattle.kind.specs.Spi.{spi};
 ghost use Rattle.outcomes.specs.Outcomes.{program_counts, erase_counts};

@@ -1,6 +1,8 @@
 // Bytes written as pairs of capital hexadecimal digits, and what bytes add to. For the crates above it alone: its
 // functions ask their caller for places within what is lent. They take a slice and numbers, not a part of the slice: so they
 // are compiled into the loop that calls them.
+#![tactic(auto)]
+
 ghost use Rattle.std.specs.Prelude.{◌≡◌, ◌+◌, ◌*◌, ◌<◌, ◌≤◌, [], ◌∷◌, length, get_or, take, drop};
 ghost use Rattle.std.proofs.Math.Seq.{paste};
 ghost use Rattle.digits.specs.Digit.{digits, hex, byte_sum};

@@ -1,6 +1,8 @@
 // The lines of a report that say one thing by themselves: a write, where a chip is stuck, a refusal. Each is
 // written into a buffer from a place on, and ends in LF. For the crates above it alone: its functions ask
 // their caller for a buffer with room for the line.
+#![tactic(auto)]
+
 ghost use Rattle.std.specs.Prelude.{◌≡◌, ◌+◌, ◌≤◌, length};
 ghost use Rattle.std.proofs.Math.Seq.{paste};
 ghost use Rattle.reportlines.specs.Reportlines.{write_line, stuck_line, refused_line};

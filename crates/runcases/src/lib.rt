@@ -1,6 +1,8 @@
 // The cases of layouts and runs, most of them called as the C host calls them, in plain numbers: each call's
 // answer is printed. F, U and A are the numbers f, g and h of a line, a state's seven b to h. For the program
 // above it alone: no more is proved here than that each call is safe and ends.
+#![tactic(auto)]
+
 use caseanswers as say;
 use caseasks::{Case, field};
 use caselines::parse::Numbers;

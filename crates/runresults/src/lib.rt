@@ -4,6 +4,8 @@
 // returns its struct by itself: one that all cases handed on would stand in every step of the proof. For the crates
 // above it alone.
 
+#![tactic(auto)]
+
 pub mod counts;
 pub mod cut;
 pub mod run;

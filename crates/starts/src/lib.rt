@@ -1,4 +1,6 @@
 // The start of a run, how many orders it has, and the number of an order among them.
+#![tactic(auto)]
+
 ghost use Rattle.std.specs.Prelude.{◌+◌, ◌≡◌, true};
 ghost use Rattle.base.specs.Answer.{Gives};
 ghost use Rattle.kind.specs.Layout.{layout_answer};

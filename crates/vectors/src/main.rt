@@ -29,6 +29,8 @@
 // them. An empty line, and one that begins with # and a space, ask nothing. Every other line prints `?`: one
 // with an unknown word, with more or fewer numbers or fields than its word wants, with something that is no
 // number or no byte, or with a number or bytes that there is no room for.
+#![tactic(auto)]
+
 use bytes::scan::find;
 use caseanswers as say;
 use caseasks::{Case, read_case};
