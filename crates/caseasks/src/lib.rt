@@ -105,6 +105,6 @@ pub fn copy_field(given: &[u8], from: usize, to: usize, out: &mut [u8]) -> usize
 {
     let bytes = field(given, from, to);
     let size = min(bytes.len(), out.len());
-    bytes::copy(&bytes[0..size], out);
+    base::copy(&bytes[0..size], out);
     size
 }

@@ -11,7 +11,7 @@ use packets::trace::Finish;
 use writes::reading::finish_from;
 
 // What a reading comes to. It is public for the laws that crates above cite; no public call answers it.
-#[derive(Drop)]
+#[derive(Clone, Copy)]
 pub enum Outcome {
     // DESYNC was met.
     Loaded {

@@ -14,7 +14,7 @@ pub fn put(out: &mut [u8], at: usize, text: &[u8])
     requires { at + length text.now ≤ length out.old }
     ensures { out.new ≡ paste out.old at text.now (length text.now) }
 {
-    bytes::copy(text, &mut out[at..]);
+    base::copy(text, &mut out[at..]);
 }
 
 // So many hexadecimal digits of a number, at `at`, from the last to the first.

@@ -86,6 +86,6 @@ pub fn overwrite(chip: &mut [u8], place: usize, bytes: &[u8]) -> FlashAnswer
     if !lies_within(chip.len(), place, bytes.len()) {
         return no_room();
     }
-    bytes::copy(bytes, &mut chip[place..]);
+    base::copy(bytes, &mut chip[place..]);
     FlashAnswer::Done
 }

@@ -22,7 +22,7 @@ use writes::reading::scan;
 
 // A packet with data words: its register, the place of its first data word, how many of its data words
 // are written, and the reader's place after it. Of a packet with DESYNC the words after that are unread.
-#[derive(Drop)]
+#[derive(Clone, Copy)]
 pub struct Packet {
     pub register: u32,
     pub first: usize,
@@ -31,7 +31,7 @@ pub struct Packet {
 }
 
 // The next packet, or that all were given, or a refusal.
-#[derive(Drop)]
+#[derive(Clone, Copy)]
 pub enum PacketAnswer {
     Found(Packet),
     End,

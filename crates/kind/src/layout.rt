@@ -7,7 +7,7 @@ use crate::spi::Spi;
 use base::refusal;
 
 // F, U and A of document 01: the chip's length, where its update area begins, and how long that is.
-#[derive(Drop)]
+#[derive(Clone, Copy)]
 pub struct Layout {
     pub chip_length: usize,
     pub update_place: usize,

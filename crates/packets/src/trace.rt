@@ -1,7 +1,7 @@
 // What reading packets gives: writes, and an end.
 
 // One write: a data word, the register it goes to, and its place.
-#[derive(Drop)]
+#[derive(Clone, Copy)]
 pub struct Write {
     pub register: u32,
     pub word: u32,

@@ -11,7 +11,7 @@ use framing::words::{word_at, words_from};
 use packets::header::{CMD, Effect, Header, WBSTAR, effect_of, header_of};
 
 // Whether a scanner goes on, or what it is at.
-#[derive(Drop)]
+#[derive(Clone, Copy)]
 pub enum Status {
     Going,
     Reached,
@@ -25,7 +25,7 @@ pub enum Status {
 // opened it to a type 2 header; whether it goes on; the data words left in the packet; the writes
 // to pass before the wanted one; the writes passed; the last WBSTAR word. It is a plain record with no
 // wide gaps between its fields, so that it can stay in registers from step to step.
-#[derive(Drop)]
+#[derive(Clone, Copy)]
 pub struct Scanner {
     pub at: usize,
     pub register: u32,

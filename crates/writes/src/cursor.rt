@@ -12,7 +12,7 @@ use scanner::scan::Status;
 
 // A place among the writes of a chip or an image: the next word's place, the packet's register and
 // the data words left in it, and how many writes are still to come.
-#[derive(Drop)]
+#[derive(Clone, Copy)]
 pub struct Cursor {
     pub at: usize,
     pub register: u32,
