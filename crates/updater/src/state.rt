@@ -12,7 +12,7 @@ use orders::{Operation, bytes_at, operation_at, orders_in};
 
 // Where a run is: its layout, the length of its image, phase, index of the order in the phase (0 in
 // phase 7), and outcome (0; 10 to 12 in phase 7 after a stop).
-#[derive(Drop)]
+#[derive(Clone, Copy)]
 pub struct State {
     pub layout: Layout,
     pub image_length: usize,
