@@ -1,0 +1,6 @@
+-- `parse::read_numbers` is safe and ends.
+use Rattle.std.proofs.Common.{◌-◌, length, rules}
+use Rattle.caselines.proofs.parse.read_numbers.Given as goal
+
+abbrev pub decreases-loop-next : goal.decreases-loop-next
+decreases-loop-next l = length l.line - l.next

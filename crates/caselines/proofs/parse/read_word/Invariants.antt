@@ -1,0 +1,6 @@
+-- `parse::read_word` is safe and ends.
+use Rattle.std.proofs.Common.{◌-◌, length, rules}
+use Rattle.caselines.proofs.parse.read_word.Given as goal
+
+abbrev pub decreases-loop-i : goal.decreases-loop-i
+decreases-loop-i l = length l.line - l.i

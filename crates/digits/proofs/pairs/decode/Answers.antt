@@ -1,0 +1,57 @@
+-- `pairs::decode` meets its contract. The loop's invariant: the buffer with the first i bytes of the pairs put in.
+use Rattle.digits.proofs.PairLaws.{length_pairs, getD-pairs}
+use Rattle.digits.specs.Pairs.{IsPair, pairs_at}
+use lib.Seq.{paste, paste-zero, paste-suc, length-paste}
+use lib.ListN.{length, get_or}
+use borrow.Author.Rules.{rules}
+use native.Mathlib.Omega.{arith}
+use native.Mathlib.Numerals.{add-one}
+use native.Mathlib.Nat.{mod-eq_of_lt}
+use mathlib.Core.List.{List}
+use mathlib.Core.Path.{◌≡◌, sym, ap, ◌∙◌}
+use Prim.Native.Nat.{ℕ, ◌+◌, ◌-◌, ◌*◌, ◌%◌, ◌≤◌}
+use Rattle.digits.proofs.pairs.decode.Goals as goal
+use Rattle.digits.proofs.pairs.decode.Goals.{At-loop-i}
+
+-- At the loop: the bytes that the pairs make, and that the buffer keeps its length.
+module _ (c : At-loop-i) where
+  abbrev bytes : List ℕ
+  bytes = pairs_at c.args.text.now c.args.from c.args.bytes
+
+  all : length bytes ≡ c.args.bytes
+  all = length_pairs c.args.text.now c.args.bytes c.args.from
+
+  kept : length c.loop-i.out ≡ length c.args.out.now
+  kept =
+      let long = all in
+      ap (λ (l : List ℕ). length l) c.loop-i.invariant.1 ∙ length-paste c.args.out.now c.args.to bytes c.loop-i.i (omega arith) (omega arith)
+
+pub loop-i-init : goal.loop-i-init
+loop-i-init c = (
+  omega arith,
+  paste-zero c.args.out.now c.args.to (pairs_at c.args.text.now c.args.from c.args.bytes),
+)
+
+pub pair-requires : goal.pair-requires
+pair-requires c = (omega arith, search rules)
+
+pub bounds-out-to : goal.bounds-out-to
+bounds-out-to c = let l = kept c in omega arith
+
+pub loop-i-preserved : goal.loop-i-preserved
+loop-i-preserved c =
+    let args = c.args in
+    let i = c.loop-i.i in
+    let long = all here in
+    let p : IsPair args.text.now (args.from + 2 * i) = c.requires.2 i (omega arith) in
+    let v : c.pair.result % 256 ≡ get_or (bytes here) i 0 =
+    mod-eq_of_lt (omega arith) ∙ c.pair.ensures.value ∙ sym (getD-pairs args.text.now i args.bytes args.from (omega arith)) in
+    (omega arith, rw (c.loop-i.invariant.1, v, add-one) (paste-suc args.out.now args.to (bytes here) i 0 (omega arith) (omega arith)))
+
+pub shape_of-out : goal.shape_of-out
+shape_of-out c = kept c
+
+pub returns : goal.returns
+returns c =
+    let e : c.loop-i.i ≡ c.args.bytes = omega arith in
+    rw e at c.loop-i.invariant.1

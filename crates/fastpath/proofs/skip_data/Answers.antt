@@ -1,0 +1,31 @@
+-- `skip_data` meets its contract: a packet that can be skipped is skipped whole.
+use Prim.Native.Nat.{◌+◌}
+use mathlib.Core.Path.{sym, ap, subst, ◌∙◌}
+use native.Mathlib.Omega.{arith}
+use borrow.Author.Tests.{not-false}
+use Rattle.scanner.specs.Scan.{scanner_after_packet}
+use Rattle.fastpath.specs.Fastpath.{SkipKeeps}
+use Rattle.fastpath.specs.Types.{Scanner}
+use Rattle.framing.proofs.Laws.{room}
+use Rattle.fastpath.proofs.SkipLaws.{past_none, past_whole}
+use borrow.Author.Rules.{rules}
+use Rattle.fastpath.proofs.skip_data.Goals as goal
+
+pub returns-then-not-may_skip : goal.returns-then-not-may_skip
+returns-then-not-may_skip c = past_none _ _ c.requires.0
+
+pub after_packet-requires : goal.after_packet-requires
+after_packet-requires c =
+    let m = c.may_skip.ensures (c.if-not-may_skip.false) in
+    let p = c.requires in
+    rw c.after_header.ensures
+    (m.0, omega (arith, m, p.4 m.1, room c.args.s.now (c.args.w.at + 4)), omega (arith, m, p), omega (arith, p.0.2))
+
+pub returns : goal.returns
+returns c =
+    let m = c.may_skip.ensures (c.if-not-may_skip.false) in
+    let p = c.requires in
+    let s = c.args.s.now in
+    let w = c.args.w in
+    subst (SkipKeeps s w) (sym (c.after_packet.ensures ∙ ap (λ (v : Scanner). scanner_after_packet s v) c.after_header.ensures))
+    (past_whole s w c.args.register c.args.count p.0 p.1 (p.2 m.0) m.0 (omega (arith, m, p)) (p.4 m.1) m.2)

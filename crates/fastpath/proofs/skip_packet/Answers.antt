@@ -1,0 +1,67 @@
+-- `skip_packet` meets its contract.
+use Prim.Native.Nat.{ℕ, ◌/◌, ◌%◌, ◌≤◌}
+use mathlib.Core.Path.{◌≡◌, refl, sym, ap, ◌∙◌}
+use mathlib.Core.Bool.{true}
+use native.Mathlib.Omega.{arith}
+use borrow.Author.Tests.{not-false}
+use Rattle.framing.specs.Words.{word_at}
+use Rattle.packets.specs.Header.{register_ok, head_of}
+use Rattle.fastpath.specs.Fastpath.{PacketBegins}
+use Rattle.fastpath.specs.Types.{Type1}
+use Rattle.fastpath.proofs.SkipLaws.{past_none, begins_type1}
+use borrow.Author.Rules.{rules}
+use Rattle.fastpath.proofs.skip_packet.Goals as goal
+use Rattle.fastpath.proofs.skip_packet.Goals.{Else-not-is_type1_form, Else-not-register_ok}
+
+-- a type 1 write of the register that its field says, if that may be named, and of so many data words
+head-is : (c : Else-not-is_type1_form) (count : ℕ) → c.args.word % 2048 ≡ count → register_ok (c.args.word / 8192 % 32) ≡ true →
+    head_of (word_at c.args.s.now c.args.w.at) ≡ Type1 (c.args.word / 8192 % 32) count
+head-is c count e ok =
+    ap head_of (sym c.requires.2)
+    ∙ c.is_type1_form.ensures (c.if-not-is_type1_form.false) ok
+    ∙ ap (λ (n : ℕ). Type1 (c.args.word / 8192 % 32) n) e
+
+-- it may be named
+may : (c : Else-not-register_ok) → register_ok (c.args.word / 8192 % 32) ≡ true
+may c = sym c.register_ok.ensures ∙ c.if-not-register_ok.false
+
+begins : (c : Else-not-register_ok) (count : ℕ) → c.args.word % 2048 ≡ count → 1 ≤ count →
+    PacketBegins c.args.s.now c.args.w (c.args.word / 8192 % 32) count
+begins c count e = begins_type1 c.args.s.now c.args.w (c.args.word / 8192 % 32) count (head-is HELPER_c.Else-not-is_type1_form count e (may HELPER_c.Else-not-register_ok))
+
+pub skip_nops-requires : goal.skip_nops-requires
+skip_nops-requires c = let p = c.requires in (p.0, omega (arith, p.1), sym p.2 ∙ c.if-word-eq-NOP.true)
+
+pub returns-then-not-is_type1_form : goal.returns-then-not-is_type1_form
+returns-then-not-is_type1_form c = past_none _ _ c.requires.0
+
+pub skip_one-requires : goal.skip_one-requires
+skip_one-requires c = let p = c.requires in (p.0, p.1, omega arith, head-is (goal.at.skip_one-requires c).Else-not-is_type1_form 1 c.if-count-eq1.true)
+
+pub returns-then-not-register_ok : goal.returns-then-not-register_ok
+returns-then-not-register_ok c = past_none _ _ c.requires.0
+
+pub skip_opening-requires : goal.skip_opening-requires
+skip_opening-requires c = let p = c.requires in (p.0, p.1, omega arith, head-is (goal.at.skip_opening-requires c).Else-not-is_type1_form 0 c.if-count-eq0.true (may (goal.at.skip_opening-requires c).Else-not-register_ok))
+
+pub skip_words-requires : goal.skip_words-requires
+skip_words-requires c =
+    let p = c.requires in (
+      p.0,
+      omega (arith, p.1),
+      omega arith,
+      begins (goal.at.skip_words-requires c).Else-not-register_ok 2 c.if-count-eq2.true,
+      omega (arith, c.min-room.ensures),
+      λ h. omega (arith, h, c.min-room.ensures, c.words_from.ensures),
+    )
+
+pub skip_words-requires-2 : goal.skip_words-requires-2
+skip_words-requires-2 c =
+    let p = c.requires in (
+      p.0,
+      omega (arith, p.1),
+      omega arith,
+      begins (goal.at.skip_words-requires-2 c).Else-not-register_ok (c.args.word % 2048) refl,
+      omega (arith, c.min-room.ensures),
+      λ h. omega (arith, h, c.min-room.ensures, c.words_from.ensures),
+    )

@@ -1,0 +1,14 @@
+-- `skip_words` meets its contract.
+use mathlib.Core.Path.{sym, ◌∙◌}
+use Rattle.fastpath.proofs.SkipLaws.{plain_begins}
+use borrow.Author.Rules.{rules}
+use Rattle.fastpath.proofs.skip_words.Goals as goal
+
+pub skip_counted-requires : goal.skip_counted-requires
+skip_counted-requires c =
+    let p = c.requires in
+    let plain = sym c.is_plain_register.ensures ∙ c.if-is_plain_register.true in
+    (p.0, p.1, λ h. plain_begins _ _ _ _ plain (λ ok. p.3 h), p.4, p.5)
+
+pub skip_data-requires : goal.skip_data-requires
+skip_data-requires c = let p = c.requires in (p.0, p.1, p.3, p.4, p.5)

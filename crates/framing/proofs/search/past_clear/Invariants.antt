@@ -1,0 +1,16 @@
+-- `framing::past_clear` meets its contract. The invariant: the search from here finds what the search from `from` finds.
+use Prim.Native.Nat.{◌+◌, ◌-◌, ◌≤◌}
+use mathlib.Core.Path.{◌≡◌, refl, sym, ◌∙◌}
+use native.Mathlib.Nat.{add-zero}
+use native.Mathlib.Omega.{arith}
+use borrow.Author.Tests.{not-false}
+use lib.ListN.{length, drop}
+use Rattle.framing.specs.Search.{find}
+use Rattle.framing.proofs.SearchLaws.{find_past, differs_at}
+use Rattle.framing.proofs.search.past_clear.Given as goal
+
+abbrev pub invariant-loop-at : goal.invariant-loop-at
+invariant-loop-at l = (l.from ≤ l.at) × (l.at ≤ length l.s) × (find (drop l.at l.s) l.at ≡ find (drop l.from l.s) l.from)
+
+abbrev pub decreases-loop-at : goal.decreases-loop-at
+decreases-loop-at l = length l.s - l.at

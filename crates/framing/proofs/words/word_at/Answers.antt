@@ -1,0 +1,8 @@
+-- `framing::word_at` meets its contract.
+use native.Mathlib.Omega.{arith}
+use Rattle.framing.proofs.WordLaws.{word_of_law}
+use borrow.Author.Rules.{rules}
+use Rattle.framing.proofs.words.word_at.Goals as goal
+
+pub returns : goal.returns
+returns c = omega (arith, word_of_law c.args.s.now c.args.at c.requires)

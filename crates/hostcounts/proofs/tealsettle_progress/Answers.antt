@@ -1,0 +1,19 @@
+-- `tealsettle_progress` meets its contract.
+use Rattle.runresults.specs.Counts.{progress_result}
+use Rattle.base.specs.Question.{ask}
+use Rattle.starts.specs.Starts.{progress_answer}
+use mathlib.Core.Logic.{⊎_elim}
+use mathlib.Core.Path.{sym, ap, ◌∙◌}
+use borrow.Author.Rules.{rules}
+use Rattle.hostcounts.proofs.tealsettle_progress.Goals as goal
+
+pub returns : goal.returns
+unfolding ask
+returns c =
+    let asked = sym c.has_number.ensures in
+    c.progress_result.ensures
+    ∙ ap progress_result
+    (⊎_elim
+    (λ w. rw (asked ∙ w.0.taken) (w.3 ∙ w.2.ensures.same ∙ ap progress_answer w.1.ensures))
+    (λ w. rw (asked ∙ w.0.left) w.1)
+    c.if-has_number.branch)

@@ -1,0 +1,13 @@
+-- `tealsettle_mcs_write` meets its contract.
+use mathlib.Core.Path.{ap, ◌∙◌}
+use borrow.Author.Rules.{rules}
+use Rattle.hosttexts.specs.Result.{text_result}
+use Rattle.hosttexts.proofs.BackLaws.{host_back}
+use Rattle.hosttexts.proofs.writing.tealsettle_mcs_write.Goals as goal
+
+pub returns : goal.returns
+returns c =
+    let wrote = c.write in (
+      c.text_result.ensures ∙ ap text_result wrote.ensures.0.same,
+      (wrote.ensures.1.0, host_back _ _ _ wrote.result c.text_result.result wrote.ensures.0.same c.text_result.ensures wrote.ensures.1.1),
+    )

@@ -1,0 +1,55 @@
+-- `loadlines::put_writes` meets its contract. The loop's invariant: the lines that are left give the same as all of them gave at the start.
+use Rattle.loadlines.proofs.ListLaws.{Going, going_start, going_room, going_on, going_done, step_wrote, step_done}
+use Prim.Native.Nat.{ℕ}
+use mathlib.Core.Path.{◌≡◌}
+use mathlib.Core.List.{List, ◌∷◌}
+use Rattle.packets.specs.declared.trace.Write.{Write}
+use Rattle.writes.specs.Cursor.{remaining_writes, writes_after_step}
+use Rattle.writes.proofs.Laws.{halves_remaining}
+use lib.ListN.{length}
+use borrow.Author.Rules.{rules}
+use native.Mathlib.Omega.{arith}
+use Rattle.loadlines.proofs.put_writes.Goals as goal
+use Rattle.loadlines.proofs.put_writes.Goals.{After-step_at-step, In-Wrote-2}
+
+-- A step's two halves tell all that is left.
+listed : (c : After-step_at-step) → writes_after_step c.args.chip.now c.step_at-step.result ≡ remaining_writes c.args.chip.now c.loop-write.here
+listed c = halves_remaining c.args.chip.now c.loop-write.here c.next_of-word.result c.step_at-step.result c.next_of-word.ensures c.step_at-step.ensures
+
+-- Where a write was given: it is the first of those that were left, and there is room for its line.
+module _ (c : In-Wrote-2) where
+  abbrev chip : List ℕ
+  chip = c.args.chip.now
+
+  abbrev more : List Write
+  more = remaining_writes chip c.in-Wrote.cursor
+
+  first : c.in-Wrote.write ∷ more ≡ remaining_writes chip c.loop-write.here
+  first = step_wrote chip c.loop-write.here c.step_at-step.result c.in-Wrote.write c.in-Wrote.cursor (listed HELPER_c.After-step_at-step) c.in-Wrote.is
+
+pub loop-write-init : goal.loop-write-init
+loop-write-init c = going_start c.args.out.now c.args.at (remaining_writes c.args.chip.now c.args.cursor) c.requires
+
+pub put_write-requires : goal.put_write-requires
+put_write-requires c =
+    let room = going_room c.loop-write.invariant c.in-Wrote.write (more given) (first given) in
+    omega arith
+
+pub overflow_add-next : goal.overflow_add-next
+overflow_add-next c =
+    let room = going_room c.loop-write.invariant c.in-Wrote.write (more given) (first given) in
+    omega arith
+
+pub loop-write-smaller : goal.loop-write-smaller
+loop-write-smaller c =
+    (going_room c.loop-write.invariant c.in-Wrote.write (more given) (first given)).1
+
+pub loop-write-preserved : goal.loop-write-preserved
+loop-write-preserved c =
+    going_on c.loop-write.invariant c.in-Wrote.write (more given) (first given) c.put_write.new.0 c.put_write.ensures
+
+pub shape_of-out-in-Done : goal.shape_of-out-in-Done
+shape_of-out-in-Done c = c.loop-write.invariant.same
+
+pub returns-in-Done : goal.returns-in-Done
+returns-in-Done c = going_done c.loop-write.invariant (step_done c.args.chip.now c.loop-write.here c.step_at-step.result (listed (goal.at.returns-in-Done c).After-step_at-step) c.in-Done.is)

@@ -1,0 +1,11 @@
+-- `reader::read` meets its contract: it is `read_by` with the table.
+use borrow.Author.Rules.{rules}
+use Rattle.base.proofs.Laws.{gives}
+use Rattle.mcs.specs.Reader.{read_numbers}
+use Rattle.mcs.proofs.reader.read.Goals as goal
+
+pub returns : goal.returns
+returns c = record {
+      answer = gives read_numbers _ _ c.read_by_lem.ensures.0;
+      output = c.read_by_lem.ensures.1;
+    }

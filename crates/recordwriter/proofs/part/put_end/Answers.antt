@@ -1,0 +1,7 @@
+-- `part::put_end` meets its contract: the end record's line is its text.
+use borrow.Author.Rules.{rules}
+use Rattle.recordwriter.proofs.LineLaws.{end_text_law}
+use Rattle.recordwriter.proofs.part.put_end.Goals as goal
+
+pub returns : goal.returns
+returns c = rw end_text_law c.put_record.ensures

@@ -1,0 +1,19 @@
+-- `part::put_upper` meets its contract: at a multiple of 65,536 the upper half's line is its text, elsewhere there is none.
+use mathlib.Core.List.{[]}
+use native.Mathlib.Omega.{arith}
+use borrow.Author.Rules.{rules}
+use lib.Seq.{paste-zero}
+use Rattle.recordwriter.proofs.PartLaws.{upper_line_law, upper_long, no_upper}
+use Rattle.recordwriter.proofs.part.put_upper.Goals as goal
+
+pub returns-then-place-ne0 : goal.returns-then-place-ne0
+returns-then-place-ne0 c = rw (no_upper c.args.place c.if-place-ne0.true) (omega arith, paste-zero c.args.out.now c.args.at [])
+
+pub put_record-requires : goal.put_record-requires
+put_record-requires c = omega (arith, upper_long c.args.place c.if-place-ne0.false)
+
+pub returns : goal.returns
+returns c =
+    let place = c.args.place in
+    let whole = c.if-place-ne0.false in
+    rw (upper_long place whole, upper_line_law place whole) c.put_record.ensures

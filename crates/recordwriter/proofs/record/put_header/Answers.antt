@@ -1,0 +1,47 @@
+-- `record::put_header` meets its contract: the colon and four pairs, each after the last.
+use Prim.Native.Nat.{◌/◌, ◌%◌}
+use mathlib.Core.Path.{◌≡◌, refl}
+use mathlib.Core.List.{[], ◌∷◌}
+use native.Mathlib.Omega.{arith}
+use borrow.Author.Rules.{rules}
+use lib.ListN.{length, set, length-set}
+use Rattle.digits.specs.Digit.{hex}
+use Rattle.fields.proofs.Laws.{Put, paste_one, put_then}
+use Rattle.mcsline.specs.Record.{COLON}
+use Rattle.recordwriter.proofs.record.put_header.Goals as goal
+use Rattle.recordwriter.proofs.record.put_header.Goals.{Start}
+
+-- The colon leaves the buffer as long as it was.
+stored : (c : Start) → length (set c.args.out.now c.args.at COLON) ≡ length c.args.out.now
+stored c = length-set c.args.out.now c.args.at COLON
+
+pub put_pair-requires : goal.put_pair-requires
+put_pair-requires c = omega (arith, stored (goal.at.put_pair-requires c).Start)
+
+pub put_pair-requires-2 : goal.put_pair-requires-2
+put_pair-requires-2 c = omega (arith, stored (goal.at.put_pair-requires-2 c).Start)
+
+pub put_pair-requires-3 : goal.put_pair-requires-3
+put_pair-requires-3 c = omega (arith, stored (goal.at.put_pair-requires-3 c).Start)
+
+pub put_pair-requires-4 : goal.put_pair-requires-4
+put_pair-requires-4 c = omega (arith, stored (goal.at.put_pair-requires-4 c).Start)
+
+pub shape_of-out : goal.shape_of-out
+shape_of-out c = omega (arith, stored (goal.at.shape_of-out c).Start)
+
+pub returns : goal.returns
+unfolding hex
+returns c =
+    let pair3 = pair4 in
+    let pair2 = pair3 in
+    let pair1 = pair2 in
+    let begun = pair1 in
+    let out = begun.args.out.now in
+    let at = begun.args.at in
+    let address = begun.args.address in
+    let colon : Put out at (COLON ∷ []) 1 (set out at COLON) = record { long = refl; room = omega arith; is = paste_one out at COLON (omega arith) } in
+    let one = put_then colon (hex (begun.args.count ∷ [])) 2 pair1.put_pair.new.0 refl (omega arith) pair1.put_pair.ensures in
+    let two = put_then one (hex (address / 256 ∷ [])) 2 pair2.put_pair-2.new.0 refl (omega arith) pair2.put_pair-2.ensures in
+    let three = put_then two (hex (address % 256 ∷ [])) 2 pair3.put_pair-3.new.0 refl (omega arith) pair3.put_pair-3.ensures in
+    (put_then three (hex (begun.args.kind ∷ [])) 2 c.put_pair-4.new.0 refl (omega arith) c.put_pair-4.ensures).is

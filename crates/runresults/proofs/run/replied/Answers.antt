@@ -1,0 +1,7 @@
+-- `replied` meets its contract.
+use mathlib.Core.Path.{refl}
+use borrow.Author.Rules.{rules}
+use Rattle.runresults.proofs.run.replied.Goals as goal
+
+pub returns : goal.returns
+returns c = rw c.state_result.ensures refl

@@ -1,0 +1,56 @@
+-- `next::step_at` meets its contract.
+use Prim.Native.Nat.{ℕ, suc, ◌+◌, ◌-◌, ◌≤◌}
+use mathlib.Core.Path.{◌≡◌, refl, sym, ap, ◌∙◌}
+use native.Mathlib.Omega.{arith}
+use borrow.Author.Rules.{rules}
+use lib.ListN.{length}
+use Rattle.framing.proofs.Laws.{room}
+use Rattle.writes.specs.Cursor.{after_write}
+use Rattle.writes.specs.Next.{step_at, step_with}
+use Rattle.writes.specs.Types.{Write, Wrote}
+use Rattle.writes.proofs.NextLaws.{no_word, data_word, no_data, step_more_law}
+use Rattle.writes.proofs.next.step_at.Goals as goal
+use Rattle.writes.proofs.next.step_at.Goals.{Else-words_from-eq0}
+
+pub returns-in_default : goal.returns-in_default
+returns-in_default c = let args = c.args in
+    no_data args.s.now args.remaining ∙ ap (λ next. step_with args.s.now next args.remaining) (sym c.in_default.is)
+
+pub returns-then-remaining-eq0 : goal.returns-then-remaining-eq0
+unfolding step_with
+returns-then-remaining-eq0 c = sym (rw (c.if-remaining-eq0.true, step_with) refl)
+
+pub returns-then-words_from-eq0 : goal.returns-then-words_from-eq0
+unfolding step_at
+returns-then-words_from-eq0 c =
+    let args = c.args in
+    let next = c.next-1.given in
+    let left = args.remaining - 1 in
+    let more : args.remaining ≡ suc left = omega arith in
+    no_word args.s.now next.0.0 _ (omega (arith, c.words_from.ensures)) left
+    ∙ ap (λ at. step_at args.s.now at left) (sym next.1)
+    ∙ step_more_law args.s.now args.next args.remaining left more
+
+-- the word lies whole within the bytes
+whole : (c : Else-words_from-eq0) → c.in-At.at + 4 ≤ length c.args.s.now
+whole c = omega (arith, room c.args.s.now c.in-At.at, c.words_from.ensures)
+
+pub word_at-requires : goal.word_at-requires
+word_at-requires c = whole (goal.at.word_at-requires c).Else-words_from-eq0
+
+pub after_write-requires : goal.after_write-requires
+after_write-requires c = omega (arith, whole (goal.at.after_write-requires c).Else-words_from-eq0, c.well_formed)
+
+pub returns : goal.returns
+unfolding step_at
+returns c =
+    let args = c.args in
+    let next = c.next-1.given in
+    let written : ℕ → Write = λ word. record { register = next.0.1.0; word = word; place = next.0.0 } in
+    let left = args.remaining - 1 in
+    let more : args.remaining ≡ suc left = omega arith in
+    ap (Wrote (written c.word_at.result)) c.after_write.ensures
+    ∙ ap (λ word. Wrote (written word) (after_write (written word) next.0.1.1.0 left)) c.word_at.ensures
+    ∙ data_word args.s.now next.0.0 next.0.1.0 next.0.1.1.0 (omega (arith, c.words_from.ensures)) left
+    ∙ ap (λ at. step_at args.s.now at left) (sym next.1)
+    ∙ step_more_law args.s.now args.next args.remaining left more
