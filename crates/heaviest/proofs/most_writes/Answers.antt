@@ -15,7 +15,7 @@ unfolding most_answer ask
 returns-then-not-length_allowed c = gives most_numbers _ _ (rw (sym c.length_allowed.ensures ∙ c.if-not-length_allowed.true) refl)
 
 pub most_in-requires : goal.most_in-requires
-most_in-requires c = let r = allowed_range c.args.image_length_law (sym c.length_allowed.ensures ∙ c.if-not-length_allowed.false) in omega arith
+most_in-requires c = let r = allowed_range c.args.image_length (sym c.length_allowed.ensures ∙ c.if-not-length_allowed.false) in omega arith
 
 pub returns : goal.returns
 unfolding most_answer ask

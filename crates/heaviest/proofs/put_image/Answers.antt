@@ -16,7 +16,7 @@ put_opening-requires c = let p = c.requires in (p.2, omega arith)
 pub returns : goal.returns
 returns c =
     let out = c.args.out.now in
-    let n = c.args.image_length_law in
+    let n = c.args.image_length in
     let last = 4 * (n / 4 - 1) in
     let zeros = c.fill in
     let front = c.put_opening in

@@ -11,7 +11,7 @@ use Rattle.heaviest.proofs.write_image.Goals as goal
 pub returns-then-out-image_length : goal.returns-then-out-image_length
 returns-then-out-image_length c =
     let a = sym c.most_writes-most.ensures.same ∙ c.in-Most.is in
-    let e = most_small c.args.image_length_law _ a c.args.out.now (omega arith) in
+    let e = most_small c.args.image_length _ a c.args.out.now (omega arith) in
     record {
       answer = gives most_numbers _ _ (sym e.0);
       output = sym e.1;
@@ -19,13 +19,13 @@ returns-then-out-image_length c =
 
 pub put_image-requires : goal.put_image-requires
 put_image-requires c =
-    let m = most_is c.args.image_length_law _ (sym c.most_writes-most.ensures.same ∙ c.in-Most.is) in
+    let m = most_is c.args.image_length _ (sym c.most_writes-most.ensures.same ∙ c.in-Most.is) in
     (m.0, m.1, m.2, omega arith)
 
 pub returns-else-out-image_length : goal.returns-else-out-image_length
 returns-else-out-image_length c =
     let a = sym c.most_writes-most.ensures.same ∙ c.in-Most.is in
-    let e = most_written c.args.image_length_law _ a c.args.out.now (omega arith) in
+    let e = most_written c.args.image_length _ a c.args.out.now (omega arith) in
     record {
       answer = gives most_numbers _ _ (sym e.0);
       output = c.put_image.ensures ∙ sym e.1;
@@ -34,7 +34,7 @@ returns-else-out-image_length c =
 pub returns-in-Refused : goal.returns-in-Refused
 returns-in-Refused c =
     let a = sym c.most_writes-most.ensures.same ∙ c.in-Refused.is in
-    let e = most_refused c.args.image_length_law _ _ a (length c.args.out.now) c.args.out.now in
+    let e = most_refused c.args.image_length _ _ a (length c.args.out.now) c.args.out.now in
     record {
       answer = gives most_numbers _ _ (sym e.0);
       output = sym e.1;

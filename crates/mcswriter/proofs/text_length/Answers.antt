@@ -15,7 +15,7 @@ unfolding length_answer ask
 returns-then-not-image_length_allowed c = gives text_numbers _ _ (rw (sym c.image_length_allowed.ensures ∙ c.if-not-image_length_allowed.true) refl)
 
 pub length_of-requires : goal.length_of-requires
-length_of-requires c = (image_length_range longest_chip c.args.image_length_law (sym c.image_length_allowed.ensures ∙ c.if-not-image_length_allowed.false)).1
+length_of-requires c = (image_length_range longest_chip c.args.image_length (sym c.image_length_allowed.ensures ∙ c.if-not-image_length_allowed.false)).1
 
 pub returns : goal.returns
 unfolding length_answer ask

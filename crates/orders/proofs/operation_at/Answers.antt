@@ -16,7 +16,7 @@ use Rattle.orders.proofs.operation_at.Goals as goal
 pub overflow_sub-image_length : goal.overflow_sub-image_length
 overflow_sub-image_length c =
     let args = c.args in
-    let h = image_pages args.layout args.image_length_law args.index (rw c.in-3.is at c.requires.0) in
+    let h = image_pages args.layout args.image_length args.index (rw c.in-3.is at c.requires.0) in
     omega arith
 
 pub returns-in-0 : goal.returns-in-0
@@ -56,5 +56,5 @@ unfolding order_of by_phase operation_of
 returns-in_default c = λ image n.
     let args = c.args in
     let k = c.in-0.rest in
-    let last : args.phase ≡ 6 = last_phase args.layout args.image_length_law args.phase args.index c.requires.0 k.0.0.0.0.0.1 k.0.0.0.0.1 k.0.0.0.1 k.0.0.1 k.0.1 k.1 in
+    let last : args.phase ≡ 6 = last_phase args.layout args.image_length args.phase args.index c.requires.0 k.0.0.0.0.0.1 k.0.0.0.0.1 k.0.0.0.1 k.0.0.1 k.0.1 k.1 in
     rw last refl

@@ -14,13 +14,13 @@ loop-i-init c = (omega arith, refl)
 
 -- the orders up to the end of the phase that is added
 more : (c : After-orders_in-orders) →
-    c.loop-i.orders + c.orders_in-orders.result ≡ count_before c.args.layout c.args.image_length_law (c.loop-i.i + 1)
+    c.loop-i.orders + c.orders_in-orders.result ≡ count_before c.args.layout c.args.image_length (c.loop-i.i + 1)
 more c =
     let args = c.args in
     let i = c.loop-i.i in
-    let orders : c.loop-i.orders ≡ count_before args.layout args.image_length_law i = c.loop-i.invariant.1 in
-    let added : c.orders_in-orders.result ≡ count args.layout args.image_length_law i = c.orders_in-orders.ensures in
-    let next = before_next args.layout args.image_length_law i in
+    let orders : c.loop-i.orders ≡ count_before args.layout args.image_length i = c.loop-i.invariant.1 in
+    let added : c.orders_in-orders.result ≡ count args.layout args.image_length i = c.orders_in-orders.ensures in
+    let next = before_next args.layout args.image_length i in
     omega arith
 
 pub overflow_add-orders : goal.overflow_add-orders
@@ -28,8 +28,8 @@ overflow_add-orders c =
     let args = c.args in
     let i = c.loop-i.i in
     let pre = c.requires in
-    let bound : count_before args.layout args.image_length_law (i + 1) ≤ total args.layout args.image_length_law = before_total args.layout args.image_length_law (i + 1) (omega arith) in
-    omega (arith, more (goal.at.overflow_add-orders c).After-orders_in-orders, bound, total_is args.layout args.image_length_law)
+    let bound : count_before args.layout args.image_length (i + 1) ≤ total args.layout args.image_length = before_total args.layout args.image_length (i + 1) (omega arith) in
+    omega (arith, more (goal.at.overflow_add-orders c).After-orders_in-orders, bound, total_is args.layout args.image_length)
 
 pub loop-i-preserved : goal.loop-i-preserved
 loop-i-preserved c = (omega arith, more (goal.at.loop-i-preserved c).After-orders_in-orders)
@@ -38,4 +38,4 @@ pub returns : goal.returns
 returns c =
     let args = c.args in
     let here : c.loop-i.i ≡ args.phase = omega arith in
-    c.loop-i.invariant.1 ∙ ap (count_before args.layout args.image_length_law) here
+    c.loop-i.invariant.1 ∙ ap (count_before args.layout args.image_length) here

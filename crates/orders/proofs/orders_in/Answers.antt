@@ -19,7 +19,7 @@ returns-in-2 c = rw c.in-2.is refl
 
 pub returns-in-3 : goal.returns-in-3
 unfolding count by_phase
-returns-in-3 c = rw c.in-3.is (rounded_up c.args.image_length_law)
+returns-in-3 c = rw c.in-3.is (rounded_up c.args.image_length)
 
 pub returns-in-4 : goal.returns-in-4
 unfolding count by_phase

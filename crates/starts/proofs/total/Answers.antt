@@ -16,5 +16,5 @@ returns-in-Allowed c = gives total_numbers _ _ c.total_allowed.ensures
 pub returns-in-Refused : goal.returns-in-Refused
 unfolding on_layout
 returns-in-Refused c =
-    gives total_numbers _ _ (total_by c.args.layout c.args.image_length_law _
+    gives total_numbers _ _ (total_by c.args.layout c.args.image_length _
     (sym c.check-allowed.ensures.same ∙ c.in-Refused.is))

@@ -12,7 +12,7 @@ use Rattle.starts.proofs.total_allowed.Goals as goal
 pub returns-then-not-image_length_allowed : goal.returns-then-not-image_length_allowed
 unfolding on_layout ask
 returns-then-not-image_length_allowed c =
-    let a = total_by c.args.layout c.args.image_length_law _ c.requires in
+    let a = total_by c.args.layout c.args.image_length _ c.requires in
     rw (sym c.image_length_allowed.ensures ∙ c.if-not-image_length_allowed.true) at a
 
 pub orders_before-requires : goal.orders_before-requires
@@ -27,6 +27,6 @@ orders_before-requires c =
 pub returns : goal.returns
 unfolding on_layout ask
 returns c =
-    let a = total_by c.args.layout c.args.image_length_law _ c.requires in
+    let a = total_by c.args.layout c.args.image_length _ c.requires in
     ap Total c.orders_before.ensures
     ∙ rw (sym c.image_length_allowed.ensures ∙ c.if-not-image_length_allowed.false) at a

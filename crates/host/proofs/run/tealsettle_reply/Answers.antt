@@ -17,4 +17,4 @@ pub returns : goal.returns
 unfolding ask
 returns c =
     let args = c.args in
-    rw (sym c.has_number.ensures ∙ c.if-not-has_number.false) (c.reply_of.ensures ∙ ap (λ given. reply_result (reply_answer spi given args.image.now args.reply-kind args.bytes.now)) c.state_of-state.ensures)
+    rw (sym c.has_number.ensures ∙ c.if-not-has_number.false) (c.reply_of.ensures ∙ ap (λ given. reply_result (reply_answer spi given args.image.now args.reply_kind args.bytes.now)) c.state_of-state.ensures)

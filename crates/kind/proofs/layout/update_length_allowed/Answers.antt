@@ -19,9 +19,9 @@ returns-then-update_length-lt-SEGMENT c = rw (eq-eqb _ _ c.if-update_length-ne0.
 pub returns-then-chip_length-update_place : goal.returns-then-chip_length-update_place
 unfolding update_length_allowed ask
 returns-then-chip_length-update_place c =
-    rw (eq-eqb _ _ c.if-update_length-ne0.false, le-leb 4096 c.args.update_length (omega arith), lt-leb (c.args.update_place + c.args.update_length) c.args.chip_length_law (omega arith)) refl
+    rw (eq-eqb _ _ c.if-update_length-ne0.false, le-leb 4096 c.args.update_length (omega arith), lt-leb (c.args.update_place + c.args.update_length) c.args.chip_length (omega arith)) refl
 
 pub returns : goal.returns
 unfolding update_length_allowed ask
 returns c =
-    rw (eq-eqb _ _ c.if-update_length-ne0.false, le-leb 4096 c.args.update_length (omega arith)) (fits_after c.args.chip_length_law c.args.update_place c.args.update_length (omega arith))
+    rw (eq-eqb _ _ c.if-update_length-ne0.false, le-leb 4096 c.args.update_length (omega arith)) (fits_after c.args.chip_length c.args.update_place c.args.update_length (omega arith))

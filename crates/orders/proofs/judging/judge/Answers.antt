@@ -27,7 +27,7 @@ unfolding on_operation ask
 returns-then-not-is_as_asked c =
     let args = c.args in
     let o = sym (the-order (goal.at.returns-then-not-is_as_asked c).After-operation_at-operation) ∙ c.in-Look.is in
-    rw (sym c.is_as_asked.ensures ∙ c.if-not-is_as_asked.true) at (judged_by _ args.reply-kind args.bytes.now _ o)
+    rw (sym c.is_as_asked.ensures ∙ c.if-not-is_as_asked.true) at (judged_by _ args.reply_kind args.bytes.now _ o)
 
 -- A look that was answered with as many bytes as it asks for.
 the-look : (c : Else-not-is_as_asked) → Looks c.args.layout c.args.image.now c.args.phase c.args.index c.in-Look.place (length c.args.bytes.now)
@@ -35,7 +35,7 @@ the-look c =
     let args = c.args in
     let place = c.in-Look.place in
     let o = sym (the-order HELPER_c.After-operation_at-operation) ∙ c.in-Look.is in
-    let asked = asked_for 1 c.in-Look.length args.reply-kind (length args.bytes.now) (sym c.is_as_asked.ensures ∙ c.if-not-is_as_asked.false) in
+    let asked = asked_for 1 c.in-Look.length args.reply_kind (length args.bytes.now) (sym c.is_as_asked.ensures ∙ c.if-not-is_as_asked.false) in
     looks args.layout args.image.now args.phase args.index place (length args.bytes.now) c.requires.1 (o ∙ ap (Look place) (sym asked.1))
 
 pub compare_look-requires : goal.compare_look-requires
@@ -61,4 +61,4 @@ returns-else-not-is_as_asked c =
     let finds = (the-look (goal.at.returns-else-not-is_as_asked c).Else-not-is_as_asked).finds in
     c.judge_look.ensures
     ∙ ap judged_look (c.compare_look.ensures ∙ ap (λ (expected : List ℕ). comparison (differs c.in-Look.place bytes expected)) (sym finds))
-    ∙ rw (sym c.is_as_asked.ensures ∙ c.if-not-is_as_asked.false) at (judged_by _ args.reply-kind bytes _ o)
+    ∙ rw (sym c.is_as_asked.ensures ∙ c.if-not-is_as_asked.false) at (judged_by _ args.reply_kind bytes _ o)

@@ -45,5 +45,5 @@ returns c =
     let order = current_order_law spi state image fitting going in
     gives reply_numbers _ _ (rw (fitting, going)
     (c.reply_judged.ensures
-    ∙ ap (λ (judgement : Judgement). on_judged judgement state) (c.judge-judgement.ensures ∙ ap (λ (o : Order). judged o args.reply-kind args.bytes.now) (sym order))
+    ∙ ap (λ (judgement : Judgement). on_judged judgement state) (c.judge-judgement.ensures ∙ ap (λ (o : Order). judged o args.reply_kind args.bytes.now) (sym order))
     ∙ judged_replies _ state _ _))
