@@ -35,5 +35,5 @@ returns-in-170 c = record {
 pub returns-in_default : goal.returns-in_default
 returns-in_default c = record {
       range = omega arith;
-      passed = skips _ 4 (omega arith) (λ h. c.in-85.rest.0.0.1) (λ h. c.in-85.rest.0.1) (λ h. c.in-85.rest.1);
+      passed = skips _ 4 (omega arith) (λ h. c.in_default.rest.0.0.1) (λ h. c.in_default.rest.0.1) (λ h. ?);
     }
