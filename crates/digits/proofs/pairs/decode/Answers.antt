@@ -1,5 +1,5 @@
 -- `pairs::decode` meets its contract. The loop's invariant: the buffer with the first i bytes of the pairs put in.
-use Rattle.digits.proofs.PairLaws.{length_pairs, getD-pairs}
+use Rattle.digits.proofs.PairLaws.{length_pairs, get_or_pairs}
 use Rattle.digits.specs.Pairs.{IsPair, pairs_at}
 use lib.Seq.{paste, paste-zero, paste-suc, length-paste}
 use lib.ListN.{length, get_or}
@@ -29,7 +29,7 @@ loop-i-preserved c =
     let long : length bytes ≡ args.bytes = length_pairs args.text.now args.bytes args.from in
     let p : IsPair args.text.now (args.from + 2 * i) = c.requires.2 i (omega arith) in
     let v : c.pair.result % 256 ≡ get_or bytes i 0 =
-    mod-eq_of_lt (omega arith) ∙ c.pair.ensures.value ∙ sym (getD-pairs args.text.now i args.bytes args.from (omega arith)) in
+    mod-eq_of_lt (omega arith) ∙ c.pair.ensures.value ∙ sym (get_or_pairs args.text.now i args.bytes args.from (omega arith)) in
     (omega arith, rw (c.loop-i.invariant.1, v, add-one) (paste-suc args.out.now args.to bytes i 0 (omega arith) (omega arith)))
 
 pub returns : goal.returns
