@@ -3,7 +3,7 @@
 
 ghost use Rattle.std.specs.Prelude.{◌≡◌, ◌+◌, leb, length, replicate};
 ghost use Rattle.base.specs.Answer.{Gives};
-ghost use Rattle.base.specs.Refusal.{no_room_law};
+ghost use Rattle.base.specs.Refusal.{no_room};
 ghost use Rattle.flash.specs.Flash.{erased, flash_numbers, flash_answer, after_program, overwrite_in_range};
 ghost use Rattle.flash.specs.Types.{FlashRefused};
 

@@ -29,10 +29,9 @@ fits : (c : Else-not-lies_within) → c.args.place + c.args.count ≤ length c.a
 fits c = leb-true _ _ (sym c.lies_within.ensures ∙ c.if-not-lies_within.false)
 
 -- whose length stays.
-kept : (c : At-loop-i) → length c.loop-i.chip ≡ length c.args.chip.now
-kept c =
+kept : (c : At-loop-i) → c.args.place + c.args.count ≤ length c.args.chip.now → length c.loop-i.chip ≡ length c.args.chip.now
+kept c f =
     let n = length-replicate {A = ℕ} c.args.count c.args.byte in
-    let f = fits HELPER_c.Else-not-lies_within in
     ap (λ (l : List ℕ). length l) c.loop-i.invariant.1 ∙ length-paste c.args.chip.now c.args.place (replicate c.args.count c.args.byte) c.loop-i.i (omega arith) (omega arith)
 
 pub loop-i-init : goal.loop-i-init
@@ -42,7 +41,7 @@ pub overflow_add-chip : goal.overflow_add-chip
 overflow_add-chip c = let f = fits (goal.at.overflow_add-chip c).Else-not-lies_within in omega arith
 
 pub bounds-chip-place : goal.bounds-chip-place
-bounds-chip-place c = let f = fits (goal.at.bounds-chip-place c).Else-not-lies_within in let l = kept (goal.at.bounds-chip-place c).At-loop-i in omega arith
+bounds-chip-place c = let f = fits (goal.at.bounds-chip-place c).Else-not-lies_within in let l = kept (goal.at.bounds-chip-place c).At-loop-i f in omega arith
 
 pub loop-i-preserved : goal.loop-i-preserved
 loop-i-preserved c =
@@ -53,7 +52,7 @@ loop-i-preserved c =
     (omega arith, rw (c.loop-i.invariant.1, add-one) (rw v at (paste-suc c.args.chip.now c.args.place (replicate c.args.count c.args.byte) i 0 (omega arith) (omega arith))))
 
 pub shape_of-chip : goal.shape_of-chip
-shape_of-chip c = kept (goal.at.shape_of-chip c).At-loop-i
+shape_of-chip c = kept (goal.at.shape_of-chip c).At-loop-i (fits (goal.at.shape_of-chip c).Else-not-lies_within)
 
 pub returns : goal.returns
 returns c =

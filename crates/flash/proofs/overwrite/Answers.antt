@@ -5,6 +5,7 @@ use native.Mathlib.Omega.{arith}
 use borrow.Author.Rules.{rules}
 use borrow.Author.Tests.{not-true, not-false, leb-true}
 use lib.ListN.{length}
+use lib.Seq.{take-length}
 use Rattle.base.proofs.Laws.{gives}
 use Rattle.base.specs.Question.{ask}
 use Rattle.flash.specs.Flash.{flash_numbers, flash_answer, span, overwrite_in_range}
@@ -46,5 +47,5 @@ returns c =
     let bytes = c.args.bytes.now in
     let f = fits (goal.at.returns c).Else-not-lies_within in record {
       answer = gives flash_numbers _ _ (in_range_done (length chip) place (length bytes) f);
-      output = front_over chip place bytes _ c.copy.ensures.1 ∙ sym (in_range chip place (length bytes) bytes f);
+      output = front_over chip place bytes _ (rw (take-length bytes) c.copy.ensures) ∙ sym (in_range chip place (length bytes) bytes f);
     }

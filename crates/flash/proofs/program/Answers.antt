@@ -35,9 +35,8 @@ programmed-length : (chip : List ℕ) (place : ℕ) (bytes : List ℕ) → place
 programmed-length chip place bytes f = cleared_length (span chip place (length bytes)) bytes (span_length chip place (length bytes) f)
 
 -- the chip's length stays,
-kept : (c : At-loop-i) → length c.loop-i.chip ≡ length c.args.chip.now
-kept c =
-    let f = fits HELPER_c.Else-not-lies_within in
+kept : (c : At-loop-i) → c.args.place + length c.args.bytes.now ≤ length c.args.chip.now → length c.loop-i.chip ≡ length c.args.chip.now
+kept c f =
     let n = programmed-length c.args.chip.now c.args.place c.args.bytes.now f in
     ap (λ (l : List ℕ). length l) c.loop-i.invariant.1 ∙ length-paste c.args.chip.now c.args.place (after_program c.args.chip.now c.args.place c.args.bytes.now) c.loop-i.i (omega arith) (omega arith)
 
@@ -60,13 +59,13 @@ pub overflow_add-chip : goal.overflow_add-chip
 overflow_add-chip c = let f = fits (goal.at.overflow_add-chip c).Else-not-lies_within in omega arith
 
 pub bounds-chip-place : goal.bounds-chip-place
-bounds-chip-place c = let f = fits (goal.at.bounds-chip-place c).Else-not-lies_within in let l = kept (goal.at.bounds-chip-place c).At-loop-i in omega arith
+bounds-chip-place c = let f = fits (goal.at.bounds-chip-place c).Else-not-lies_within in let l = kept (goal.at.bounds-chip-place c).At-loop-i f in omega arith
 
 pub overflow_add-chip-in-loop-i : goal.overflow_add-chip-in-loop-i
 overflow_add-chip-in-loop-i c = let f = fits (goal.at.overflow_add-chip-in-loop-i c).Else-not-lies_within in omega arith
 
 pub bounds-chip-place-in-loop-i : goal.bounds-chip-place-in-loop-i
-bounds-chip-place-in-loop-i c = let f = fits (goal.at.bounds-chip-place-in-loop-i c).Else-not-lies_within in let l = kept (goal.at.bounds-chip-place-in-loop-i c).At-loop-i in omega arith
+bounds-chip-place-in-loop-i c = let f = fits (goal.at.bounds-chip-place-in-loop-i c).Else-not-lies_within in let l = kept (goal.at.bounds-chip-place-in-loop-i c).At-loop-i f in omega arith
 
 pub loop-i-preserved : goal.loop-i-preserved
 loop-i-preserved c =
@@ -80,7 +79,7 @@ loop-i-preserved c =
     )
 
 pub shape_of-chip : goal.shape_of-chip
-shape_of-chip c = kept (goal.at.shape_of-chip c).At-loop-i
+shape_of-chip c = kept (goal.at.shape_of-chip c).At-loop-i (fits (goal.at.shape_of-chip c).Else-not-lies_within)
 
 pub returns : goal.returns
 returns c =

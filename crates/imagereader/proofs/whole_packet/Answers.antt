@@ -38,15 +38,15 @@ returns-then-run-here c =
     let args = c.args in
     let run = c.count_plain_words-run in
     c.ended_packet.ensures
-    ∙ sym (packet_ended args.image.now args.register args.first args.left f.0 run.result (omega arith) (omega arith) run.ensures.1.0 (run.ensures.1.1 c.if-run-here.true))
+    ∙ sym (packet_ended args.image.now args.register args.first args.left f.0 run.result (omega arith) (omega arith) run.ensures.quiet (run.ensures.stops c.if-run-here.true))
 
 pub returns-then-run-left : goal.returns-then-run-left
 returns-then-run-left c =
     let f = facts (goal.at.returns-then-run-left c).After-min-here in
     let args = c.args in
     let run = c.count_plain_words-run in
-    let most = run.ensures.0 in
-    sym (packet_short args.image.now args.register args.first args.left f.0 run.result (omega arith) (omega arith) run.ensures.1.0)
+    let most = run.ensures.within in
+    sym (packet_short args.image.now args.register args.first args.left f.0 run.result (omega arith) (omega arith) run.ensures.quiet)
 
 pub overflow_mul-next : goal.overflow_mul-next
 overflow_mul-next c = let f = facts (goal.at.overflow_mul-next c).After-min-here in let most = c.count_plain_words-run.ensures.within in omega (arith, c.well_formed)
@@ -59,5 +59,5 @@ returns c =
     let f = facts (goal.at.returns c).After-min-here in
     let args = c.args in
     let run = c.count_plain_words-run in
-    let most = run.ensures.0 in
-    sym (packet_whole args.image.now args.register args.first args.left f.0 run.result (omega arith) (omega arith) run.ensures.1.0)
+    let most = run.ensures.within in
+    sym (packet_whole args.image.now args.register args.first args.left f.0 run.result (omega arith) (omega arith) run.ensures.quiet)

@@ -12,7 +12,7 @@ use Rattle.writes.proofs.reading.finish_from.Goals.{After-scan}
 finished : (c : After-scan) → scan_of c.args.s.now c.scan.result ≡ ScanFinished (finish_from c.args.s.now c.args.from)
 finished c =
     let args = c.args in
-    c.scan.ensures.bounds.1 ∙ finish_scan args.s.now args.from
+    c.scan.ensures.comes ∙ finish_scan args.s.now args.from
 
 pub finish_of-requires : goal.finish_of-requires
 finish_of-requires c = (
