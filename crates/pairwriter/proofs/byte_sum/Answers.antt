@@ -6,27 +6,23 @@ use lib.ListN.{get_or, take, drop}
 use Rattle.digits.specs.Digit.{byte_sum}
 use Rattle.pairwriter.proofs.SpanLaws.{next_sum}
 use Rattle.pairwriter.proofs.byte_sum.Goals as goal
-use Rattle.pairwriter.proofs.byte_sum.Goals.{After-shared_slice_known-1}
 
 pub loop-i-init : goal.loop-i-init
 unfolding byte_sum
 loop-i-init c = (omega arith, refl, omega arith)
 
-byte : (c : After-shared_slice_known-1) → get_or c.args.bytes.now (c.args.from + c.loop-i.i) 0 < 256
-byte c = omega (arith, c.shared_slice_known-1.given (c.args.from + c.loop-i.i))
-
 pub overflow_cast-sum : goal.overflow_cast-sum
-overflow_cast-sum c = omega (arith, byte (goal.at.overflow_cast-sum c).After-shared_slice_known-1)
+overflow_cast-sum c = omega (arith, c.type_inv.bytes (c.args.from + c.loop-i.i))
 
 pub overflow_add-sum-in-loop-i : goal.overflow_add-sum-in-loop-i
-overflow_add-sum-in-loop-i c = omega (arith, byte (goal.at.overflow_add-sum-in-loop-i c).After-shared_slice_known-1)
+overflow_add-sum-in-loop-i c = omega (arith, c.type_inv.bytes (c.args.from + c.loop-i.i))
 
 pub loop-i-preserved : goal.loop-i-preserved
 loop-i-preserved c =
     let args = c.args in
     let i = c.loop-i.i in
     let more = next_sum args.bytes.now args.from i (omega arith) in
-    (omega arith, omega (arith, more), omega (arith, byte (goal.at.loop-i-preserved c).After-shared_slice_known-1))
+    (omega arith, omega (arith, more), omega (arith, c.type_inv.bytes (c.args.from + c.loop-i.i)))
 
 pub returns : goal.returns
 returns c =

@@ -6,6 +6,6 @@ use Rattle.hosttexts.proofs.reading.tealsettle_mcs_read.Goals as goal
 
 pub returns : goal.returns
 returns c = record {
-      answer = c.read_result.ensures ∙ ap read_result c.read.ensures.answer.same;
-      output = c.read.ensures.output;
-    }
+  answer = c.read_result.ensures ∙ ap read_result c.read.ensures.answer.same;
+  output = c.read.ensures.output;
+}

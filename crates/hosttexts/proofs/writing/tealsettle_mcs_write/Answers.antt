@@ -7,7 +7,9 @@ use Rattle.hosttexts.proofs.writing.tealsettle_mcs_write.Goals as goal
 
 pub returns : goal.returns
 returns c =
-    let wrote = c.write in (
-      c.text_result.ensures ∙ ap text_result wrote.ensures.0.same,
-      (wrote.ensures.1.0, host_back _ _ _ wrote.result c.text_result.result wrote.ensures.0.same c.text_result.ensures wrote.ensures.1.1),
-    )
+    let wrote = c.write in
+    record {
+      answer = c.text_result.ensures ∙ ap text_result wrote.ensures.answer.same;
+      output = wrote.ensures.output;
+      back = host_back _ _ _ wrote.result c.text_result.result wrote.ensures.answer.same c.text_result.ensures wrote.ensures.back;
+    }
