@@ -1,7 +1,7 @@
 # The library for C, the tool over it, and `bootreport`.
 #
 #   make                             target/tealsettle, target/libtealsettle.a and target/bin/bootreport
-#   make proofs                      proves every crate from nothing, tries every must-fail edit, runs every program
+#   make proofs                      proves every crate, tries every must-fail edit, runs every program: `rt ci`
 #   make check                       tests what is made of the proved crates
 #   make install PREFIX=/usr/local   tool, man page, header, library and pkg-config file; DESTDIR goes before PREFIX
 #
@@ -12,45 +12,36 @@ CFLAGS ?= -O2
 override CFLAGS += -std=c11 -Wall -Wextra
 prefix := $(DESTDIR)$(PREFIX)
 
-# The prover makes and removes thousands of small files: in memory that costs no disk's bookkeeping.
-ifeq ($(TMPDIR)$(shell test -w /dev/shm && echo writable),writable)
-export TMPDIR := /dev/shm
-endif
-# One more at a time than there are processors: the crates of a level, and the edits of a batch, end at different times, and a
-# processor would wait.
-export RT_JOBS ?= $(shell echo $$(($$(nproc) + 1)))
-
-PROVED := crates.txt $(shell find crates -name '*.rt' -o -name '*.antt')
-# The crates whose functions C calls. An archive of the kit has the functions of one, so ours is joined from theirs.
-EXPORTED := host hostcounts hostfiles hosttexts
-BELOW := $(sort $(foreach crate,$(EXPORTED),$(shell sed -n "s/^$(crate): //p" crates.txt)))
+PROVED := crates.txt $(shell find crates -name out -prune -o '(' -name '*.rt' -o -name '*.antt' ')' -print)
 PARTS := $(patsubst library/%.c,target/library/%.o,$(wildcard library/*.c))
 OBJECTS := $(patsubst tools/%.c,target/tools/%.o,$(wildcard tools/*.c))
 VERSION := $(shell sed -n 's/^.define TEALSETTLE_VERSION "\(.*\)"$$/\1/p' include/tealsettle.h)
 
 all: target/tealsettle target/libtealsettle.a target/bin/bootreport
 
-# What the library is made of, and the program: several crates at once.
+# The program, which is run once as it is made, and the library's proved part: each with what stands below it.
 target/bin/bootreport: $(PROVED)
-	@mkdir -p target
-	@echo "rt check: proves bootreport, and what the library is made of (target/proved.log)"
-	@rt check $(BELOW) bootreport >target/proved.log 2>&1 || { cat target/proved.log; exit 1; }
-	@touch $@
+	@mkdir -p target/bin
+	@echo "rt run: proves bootreport and makes it (target/bootreport.log)"
+	@cd crates/bootreport && rt run <stdin >../../target/bootreport.out 2>../../target/bootreport.log || { cat ../../target/bootreport.log; exit 1; }
+	@cmp target/bootreport.out crates/bootreport/stdout
+	@cp crates/bootreport/out/bootreport $@
 
-target/staticlib/lib%.a: target/bin/bootreport
-	@echo "rt staticlib $*: proves it and makes its archive (target/$*.log)"
-	@rt staticlib $* >target/$*.log 2>&1 || { cat target/$*.log; exit 1; }
-	@touch $@
+target/libtealsettle_c.a: $(PROVED)
+	@mkdir -p target
+	@echo "rt lib: proves the functions for C and makes their archive (target/tealsettle_c.log)"
+	@cd crates/tealsettle_c && rt lib >../../target/tealsettle_c.log 2>&1 || { cat ../../target/tealsettle_c.log; exit 1; }
+	@cp crates/tealsettle_c/out/libtealsettle_c.a $@
 
 # The part of the library that is plain C. Position-independent, as the rest is, so that it can be put into a shared library.
 target/library/%.o: library/%.c include/tealsettle.h
 	@mkdir -p target/library
 	$(CC) $(CFLAGS) $(CPPFLAGS) -fPIC -c -o $@ $<
 
-target/libtealsettle.a: $(EXPORTED:%=target/staticlib/lib%.a) $(PARTS)
+target/libtealsettle.a: target/libtealsettle_c.a $(PARTS)
 	rm -rf $@ target/parts
 	mkdir -p target/parts
-	cd target/parts && for archive in $(filter %.a,$^); do ar x ../../$$archive; done
+	cd target/parts && ar x ../libtealsettle_c.a
 	ar rcs $@ target/parts/*.o $(PARTS)
 
 target/tools/%.o: tools/%.c tools/tool.h include/tealsettle.h

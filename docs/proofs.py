@@ -11,8 +11,8 @@ Checked: both pages are what they would be now, and no page is too long; every p
 `ensures`, and every public call no `requires` and two must-fail edits; every theorem that is stated in specs/ has a proof
 of that type among the laws of its crate; every [`name`](file) names something that the
 file declares, every edit named in PROOFS.md or REQUESTS.md exists, and every relative link of README.md and docs/*.md leads to a
-file or a heading; and `specs/` mirrors `src/`: where a module's contracts cite definitions of its own crate there is a
-file of definitions of its name.
+file or a heading; `specs/` mirrors `src/`: where a module's contracts cite definitions of its own crate there is a
+file of definitions of its name; and each function of the static library for C promises what the public call of its name does.
 """
 import re
 import sys
@@ -36,6 +36,12 @@ INTERNAL = (
     'fields', 'pairwriter', 'recordwriter', 'reportlines', 'loadlines', 'results', 'fileresults', 'runresults',
     'hosttexts::result')
 
+# The static library for C. Each of its functions hands its arguments to the public call of its name, in one of the crates
+# HOSTS, and has that call's contract in the same words, by the same definitions: `check_for_c` holds it to that. So what
+# CONTRACTS.md says of the call and the call's must-fail edits stand for both, and the function has no entry and no edits.
+FOR_C = 'tealsettle_c'
+HOSTS = ('host', 'hostcounts', 'hostfiles', 'hosttexts')
+
 # Parts of the program that runs the cases. No promise rests on them: they print, and are proved to be safe and to end.
 PROGRAM_PARTS = ('caselines', 'caseasks', 'caseanswers', 'chipcases', 'runcases', 'lentcases')
 
@@ -46,15 +52,18 @@ STATED_IN = {'life': ('OrderList.Demand2', 'Life.Demand3', 'Events.EventsKeep', 
 # A function's header ends where its body opens, on a line of its own.
 PUBLIC = re.compile(r'^( *)pub (?:extern "C" )?fn (\w+)')
 IMPL = re.compile(r'^impl(?:<[^>]*>)? (\w+)')
-GHOST_USE = re.compile(r'^ghost use Rattle·(\w+?)(?:·specs)?\.specs\.([A-Z]\w*)\.\{([^}]*)\};', re.M)
-LAWS_USE = re.compile(r'^use Rattle·(\w+)\.proofs\.Laws\.\{([^}]*)\}', re.M)
+GHOST_USE = re.compile(r'^ghost use Rattle\.(\w+)\.specs\.([A-Z]\w*)\.\{([^}]*)\};', re.M)
+LAWS_USE = re.compile(r'^use Rattle\.(\w+)\.proofs\.Laws\.\{([^}]*)\}', re.M)
+
+# What a clause says: a contract has each on a line of its own, perhaps with a name, in braces.
+CLAUSE = re.compile(r'^ *(?:requires|ensures)(?: \w+)? \{ (.*) \}$', re.M)
 
 # A declaration of antt: a type, or a name and its signature. A clause has no colon after the name, so is none.
 DECLARES = re.compile(
     r'^( *)(?:(?:unfoldable|abbrev|pub) )*'
     r'(?:(?:data|record) (?P<type>[^\s(){}:]+)|(?P<name>[^\s(){}:]+)(?: \{[^}]*\})? :(?: |$))')
 PASSED_ON = re.compile(r'^(?:unfoldable )?pub use [^{]*\{([^}]*)\}', re.M)
-PASSED_FROM = re.compile(r'^(?:unfoldable )?pub use Rattle·\w+·proofs\.proofs\.(\w+)\.\{([^}]*)\}', re.M)
+PASSED_FROM = re.compile(r'^(?:unfoldable )?pub use Rattle\.(\w+)\.proofs\.(\w+)\.\{([^}]*)\}', re.M)
 SIGNATURE = re.compile(r'^pub ([^\s:({]+) : (.*)$', re.M)
 TYPE = re.compile(r'^(?:(?:abbrev|unfoldable) )?pub (?:record )?([^\s(){}:]+)(?: .*)? : (?:.* → )?Type \d(?: where)?$', re.M)
 ITEM = r'^ *(?:pub(?:\(crate\))? )?(?:extern "C" )?(?:fn|struct|enum|const) {}\b'
@@ -72,14 +81,16 @@ INTRO = """\
 Written by `python3 docs/proofs.py` from the source; a change by hand is lost.
 
 What every public call answers: its contract, the definitions that the contract cites, and the must-fail edits
-that the prover refuses because of it. None asks anything of its caller. In a contract `r` is the answer,
-`now (x .entry)` the bytes lent at the call, `now (x .exit)` those given back; of two clauses `answer` is about
-the result and `output` about the bytes lent to be written. `Gives numbers r defined`: `r` is the answer defined, and
-its number and values, which `numbers` has for each of its cases, are the defined ones. A slice is shorter than 2^63
-bytes: so it is by its type, and a C host must keep to it. [PROOFS.md](PROOFS.md) goes through the demands,
-[REQUESTS.md](REQUESTS.md) through the requests, [REFUSALS.md](REFUSALS.md) has the numbers of refusals, and
-[include/tealsettle.h](../include/tealsettle.h) the functions for C. Functions of the crates between these are for the
-crates above them and no calls (`INTERNAL` in [proofs.py](proofs.py)).
+that the prover refuses because of it. None asks anything of its caller. In a contract `result` is the answer and
+`x.now` the bytes that `x` lends to be read; of bytes lent to be written `x.old` are those at the call and `x.new`
+those given back; `x.entry` is `x` as it was passed. Where a contract has several clauses each has a name: `answer` is
+about the result and `output` about the bytes lent to be written. `Gives numbers result defined`: `result` is the
+answer defined, and its number and values, which `numbers` has for each of its cases, are the defined ones. A slice is
+shorter than 2^63 bytes: so it is by its type, and a C host must keep to it. [PROOFS.md](PROOFS.md) goes through the
+demands, [REQUESTS.md](REQUESTS.md) through the requests, [REFUSALS.md](REFUSALS.md) has the numbers of refusals, and
+[include/tealsettle.h](../include/tealsettle.h) the functions for C: crate `tealsettle_c`, the static library, has those
+of `host`, `hostcounts`, `hostfiles` and `hosttexts` by their names and with their contracts, word for word. Functions
+of the crates between these are for the crates above them and no calls (`INTERNAL` in [proofs.py](proofs.py)).
 """
 
 
@@ -128,7 +139,7 @@ def joined(parts):
 
 def library_crates():
     """From the bottom up, as crates.txt has them."""
-    names = re.findall(r'^(\w+):', read(ROOT / 'crates.txt'), re.M)
+    names = re.findall(r'^(\w+)(?: staticlib)?:', read(ROOT / 'crates.txt'), re.M)
     return [ROOT / 'crates' / name for name in names if is_library(name)]
 
 
@@ -179,8 +190,13 @@ def functions_of(file):
     return [call_at(file, lines, at) for at, line in enumerate(lines) if PUBLIC.match(line)]
 
 
+def is_in(call, names):
+    """Whether a function is one of those named, or is inside of one: of a crate, a module or a type."""
+    return any(f'{call.name}::'.startswith(f'{name}::') for name in names)
+
+
 def is_internal(call):
-    return any(f'{call.name}::'.startswith(f'{name}::') for name in INTERNAL)
+    return is_in(call, INTERNAL)
 
 
 def modules():
@@ -192,7 +208,7 @@ def public_functions():
 
 
 def public_calls():
-    return {call.name: call for call in public_functions() if not is_internal(call)}
+    return {call.name: call for call in public_functions() if not is_internal(call) and not is_in(call, (FOR_C,))}
 
 
 def edit_from(file):
@@ -217,9 +233,10 @@ def brought(crate, module, names):
 
 def cited(call):
     """The definitions of this repository's specs/ that a contract names, each with its file."""
-    known = dict(joined(brought(*use) for use in GHOST_USE.findall(read(call.file))))
+    uses = [use for use in GHOST_USE.findall(read(call.file)) if (ROOT / 'crates' / use[0]).is_dir()]
+    known = dict(joined(brought(*use) for use in uses))
     # A field is read with a dot before it, so it is not taken for a definition of its name.
-    words = re.findall(r'[^\s(){}⌜⌝,:]+', ' '.join(re.findall(r'⌜(.*?)⌝', call.contract)))
+    words = re.findall(r'[^\s(){},:]+', ' '.join(CLAUSE.findall(call.contract)))
     return [known[word] for word in dict.fromkeys(words) if word in known]
 
 
@@ -266,8 +283,8 @@ def law_types(crate):
     """What proofs/Laws.antt declares and passes on, with the type of each."""
     text = read(crate / 'proofs' / 'Laws.antt')
     types = dict(SIGNATURE.findall(text))
-    for module, names in PASSED_FROM.findall(text):
-        below = dict(SIGNATURE.findall(read(crate / 'proofs' / f'{module}.antt')))
+    for source, module, names in PASSED_FROM.findall(text):
+        below = dict(SIGNATURE.findall(read(ROOT / 'crates' / source / 'proofs' / f'{module}.antt')))
         types.update((name, below[name]) for name in names.split(', ') if name in below)
     return types
 
@@ -440,6 +457,21 @@ def check_mirror():
             yield f'{shown(file)}: its contracts cite definitions of its crate, and there is no {shown(mirrored(file))}'
 
 
+def promise(call):
+    """A contract without its blanks and calling convention, and the definitions that it cites."""
+    words = call.contract.replace('extern "C" ', '')
+    return ''.join(words.split()).replace(',)', ')'), cited(call)
+
+
+def check_for_c():
+    """That the static library has every function for C of the host crates, and no other, each with the same promise."""
+    functions = [(call.name.split('::')[-1], call) for call in public_functions()]
+    own = {name: promise(call) for name, call in functions if is_in(call, (FOR_C,))}
+    hosts = {name: promise(call) for name, call in functions if is_in(call, HOSTS) and name.startswith('tealsettle_')}
+    differ = [name for name in sorted({*own, *hosts}) if own.get(name) != hosts.get(name)]
+    return [f'crates/{FOR_C}: {name} is not the function of that name in {", ".join(HOSTS)}' for name in differ]
+
+
 def block_of(lines, name):
     """The indented lines below the declaration of a type."""
     starts = [at for at, line in enumerate(lines) if name in declared_on(line)]
@@ -510,7 +542,7 @@ def main():
     written = [README, *sorted((ROOT / 'docs').glob('*.md'))]
     problems = [
         *check_pages(made), *check_blocks(), *check_lengths(), *check_contracts(), *check_edits(calls, edits),
-        *check_shown(calls, edits), *check_theorems(theorems), *check_mirror(),
+        *check_shown(calls, edits), *check_theorems(theorems), *check_mirror(), *check_for_c(),
         *joined(check_edit_names(page, edits) for page in (PROOFS, REQUESTS)), *joined(map(check_names, written)),
         *joined(map(check_links, written))]
     names = set().union(*map(names_on, written))

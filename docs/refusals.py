@@ -79,12 +79,6 @@ def meanings():
     return {row['name']: row['meaning'] for row in IN_PAGE.finditer(read(PAGE))}
 
 
-def camel_case(name):
-    """BAD_CHIP_LENGTH as a definition has it: badChipLength."""
-    first, *rest = name.lower().split('_')
-    return first + ''.join(map(str.capitalize, rest))
-
-
 # ---- the parts of the header
 
 def c_name(name, number):
@@ -137,7 +131,8 @@ def check_numbers(names):
 
 
 def check_definitions(names):
-    yield from check_same(DEFINITIONS, definitions(), [(camel_case(name), number) for name, number in names])
+    # BAD_CHIP_LENGTH is bad_chip_length there.
+    yield from check_same(DEFINITIONS, definitions(), [(name.lower(), number) for name, number in names])
 
 
 def check_words():

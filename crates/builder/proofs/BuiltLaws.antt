@@ -1,4 +1,4 @@
--- A built chip is well_formed, its switch is OFF, and it loads the golden image it was given.
+-- A built chip is well-formed, its switch is OFF, and it loads the golden image it was given.
 use Prim.Native.Nat.{ℕ, ◌+◌, ◌-◌, ◌<◌, ◌≤◌}
 use mathlib.Core.Path.{◌≡◌, refl, sym, ap, ◌∙◌}
 use mathlib.Core.Bool.{Bool, true, false}

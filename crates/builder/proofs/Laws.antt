@@ -1,4 +1,4 @@
--- What crates above may count on of a built chip, beside the contract: that it is well_formed and OFF, and loads its golden image; and how one is refused.
+-- What crates above may count on of a built chip, beside the contract: that it is well-formed and OFF, and loads its golden image; and how one is refused.
 use Rattle.builder.specs.Theorems.{BuiltChip}
 pub use Rattle.builder.proofs.BuiltLaws.{BuildQuestions, questions, allowed_refusals, golden_room, built_length, built_well_formed, built_off, built_loads}
 

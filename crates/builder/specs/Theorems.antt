@@ -6,7 +6,7 @@ use Rattle.chip.specs.Chip.{switch_word, WellFormed, Loads}
 use Rattle.builder.specs.Types.{Layout, Built}
 use Rattle.builder.specs.Builder.{built_chip, build_answer}
 
--- A chip that the builder answers has F bytes, is well_formed, has its switch OFF and loads the golden image it was given, whole, without a jump.
+-- A chip that the builder answers has F bytes, is well-formed, has its switch OFF and loads the golden image it was given, whole, without a jump.
 pub record BuiltChip : Type 0 where
   pub long : (layout : Layout) (golden : List ℕ) (room : ℕ) → build_answer spi layout golden room ≡ Built → length (built_chip spi layout golden) ≡ layout.chip_length
   pub well_formed : (layout : Layout) (golden : List ℕ) (room : ℕ) → build_answer spi layout golden room ≡ Built → WellFormed spi layout.update_place (built_chip spi layout golden)

@@ -1,4 +1,4 @@
--- A well_formed chip stays so whatever an order may leave: an erase of segment 0, a program of the switch word, anything in the update area. Of any kind.
+-- A well-formed chip stays so whatever an order may leave: an erase of segment 0, a program of the switch word, anything in the update area. Of any kind.
 use Prim.Native.Nat.{ℕ, ◌+◌, ◌-◌, ◌<◌, ◌≤◌, min}
 use mathlib.Core.Path.{◌≡◌, refl, sym, ap, subst, ◌∙◌}
 use mathlib.Core.Logic.{◌⊎◌, inl, inr, ⊎_elim}
@@ -53,7 +53,7 @@ module _ (kind : Kind) (update_place : ℕ) (chip : List ℕ) (formed : WellForm
       ∙ same (golden_at + i) (omega arith) (omega arith)
       ∙ sym (span_at chip golden_at (update_place - golden_at) i (omega arith)))
 
-  -- What makes a chip well_formed lies below the update area.
+  -- What makes a chip well-formed lies below the update area.
   stays_well_formed : (after : List ℕ) → length after ≡ length chip → ((i : ℕ) → i < switch_at → get_or after i 0 ≡ 0xFF) → BitSuperset (switch_word after) kind.on →
       ((i : ℕ) → segment ≤ i → i < update_place → get_or after i 0 ≡ get_or chip i 0) → WellFormed kind update_place after
   stays_well_formed after e blank covers same = record {

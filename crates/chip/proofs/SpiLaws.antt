@@ -1,4 +1,4 @@
--- What a well_formed SPI chip loads.
+-- What a well-formed SPI chip loads.
 use Prim.Native.Nat.{ℕ, zero, suc, ◌+◌, ◌-◌, ◌*◌, ◌/◌, ◌%◌, ◌^◌, ◌<◌, ◌≤◌}
 use mathlib.Core.Path.{◌≡◌, refl, sym, ◌∙◌}
 use mathlib.Core.Bool.{Bool, true, false}
@@ -141,7 +141,7 @@ module _ (update_place : ℕ) (chip : List ℕ) (formed : WellFormed spi update_
           let e : segment + (i - segment) ≡ i = omega arith in
           rw e at (none_in_words (i - segment) (omega arith))
 
-  -- A well_formed chip that is OFF loads its golden area, without a jump.
+  -- A well-formed chip that is OFF loads its golden area, without a jump.
   pub spi_off_loads : spi.is_on (switch_word chip) ≡ false → Loads spi chip (golden_area update_place chip) golden_at false
   spi_off_loads off = record { itself = itself; reading = reading; whole = whole }
     where
@@ -188,7 +188,7 @@ module _ (update_place : ℕ) (chip : List ℕ) (formed : WellFormed spi update_
         word_by 4108 0x00 0x00 0x00 0x0F (omega arith) (formed.words 12 (omega arith)) (formed.words 13 (omega arith)) (formed.words 14 (omega arith)) (formed.words 15 (omega arith)),
       )
 
-  -- A well_formed chip that is ON loads the image at U, after a jump.
+  -- A well-formed chip that is ON loads the image at U, after a jump.
   pub spi_on_loads : (image : List ℕ) → spi.is_on (switch_word chip) ≡ true → LoadsAlone spi image → ContainsAt chip update_place image → Loads spi chip image update_place true
   spi_on_loads image on itself stands = record { itself = itself; reading = reading; whole = whole }
     where

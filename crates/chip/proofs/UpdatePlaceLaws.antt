@@ -1,4 +1,4 @@
--- Where a chip's update area begins, as its segment 1 says: a well_formed chip names its own U, and a U that is found is one that segment 1 begins with the words for.
+-- Where a chip's update area begins, as its segment 1 says: a well-formed chip names its own U, and a U that is found is one that segment 1 begins with the words for.
 use Prim.Native.Nat.{ℕ, zero, suc, ◌+◌, ◌^◌, ◌<◌, ◌≤◌}
 use mathlib.Core.Path.{◌≡◌, refl, sym, ap, subst, ◌∙◌}
 use mathlib.Core.Bool.{Bool, true, false}

@@ -1,4 +1,4 @@
--- The chips that are well_formed, what they load, and the laws of a chip kind. Document 01, "The chip" and "How the configuration reader reads".
+-- The chips that are well-formed, what they load, and the laws of a chip kind. Document 01, "The chip" and "How the configuration reader reads".
 use Rattle.std.specs.Prelude.{ℕ, ◌+◌, ◌-◌, ◌<◌, ◌≤◌, ◌≡◌, Bool, true, false, List, length, get_or}
 use Rattle.packets.specs.Trace.{contents}
 use Rattle.kind.specs.Layout.{chip_length_allowed, segment, switch_at, golden_at, update_place_allowed}
@@ -57,7 +57,7 @@ pub record Lawful (kind : Kind) : Type 0 where
   pub alone_stays : (image : List ℕ) (sync end writes : ℕ) (jumped : Bool) → kind.alone image ≡ Loaded sync end writes jumped → jumped ≡ false
   -- a word that has every 1 bit of ON and is OFF stays OFF when more bits become 1;
   pub stays_off : (word more : List ℕ) → BitSuperset word kind.on → BitSuperset more word → kind.is_on word ≡ false → kind.is_on more ≡ false
-  -- a well_formed chip that is OFF loads its golden area, without a jump;
+  -- a well-formed chip that is OFF loads its golden area, without a jump;
   pub off_loads : (update_place : ℕ) (chip : List ℕ) → WellFormed kind update_place chip → kind.is_on (switch_word chip) ≡ false → Loads kind chip (golden_area update_place chip) golden_at false
-  -- a well_formed chip that is ON loads the image at U, after one.
+  -- a well-formed chip that is ON loads the image at U, after one.
   pub on_loads : (update_place : ℕ) (chip image : List ℕ) → WellFormed kind update_place chip → kind.is_on (switch_word chip) ≡ true → LoadsAlone kind image → ContainsAt chip update_place image → Loads kind chip image update_place true

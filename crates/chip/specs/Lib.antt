@@ -1,4 +1,4 @@
--- What the contracts and the theorems of this crate say, in the order to read it: what an order may leave, well_formed chips and the laws of a kind, the switch word, the update area's place.
+-- What the contracts and the theorems of this crate say, in the order to read it: what an order may leave, well-formed chips and the laws of a kind, the switch word, the update area's place.
 pub mod Types
 pub mod Cut
 pub mod Chip

@@ -1,4 +1,4 @@
--- What is proved of chips: that the SPI kind keeps the laws of a kind, that a well_formed chip stays so, and that it names its own U.
+-- What is proved of chips: that the SPI kind keeps the laws of a kind, that a well-formed chip stays so, and that it names its own U.
 use Rattle.std.specs.Prelude.{ℕ, ◌+◌, ◌^◌, ◌<◌, ◌≤◌, ◌≡◌, true, List, length}
 use Rattle.kind.specs.Layout.{chip_length_allowed, segment, switch_at}
 use Rattle.kind.specs.Kind.{Kind}
@@ -13,7 +13,7 @@ use Rattle.chip.specs.Chip.{switch_word, BitSuperset, WellFormed, Lawful}
 abbrev pub SpiLawful : Type 0
 SpiLawful = Lawful spi
 
--- A well_formed chip, of any kind, stays so whatever an order of a run may leave on it.
+-- A well-formed chip, of any kind, stays so whatever an order of a run may leave on it.
 pub record StaysWellFormed : Type 0 where
   -- An erase of segment 0, cut inside or not, also keeps every 1 bit of the switch word;
   pub erase : (kind : Kind) (update_place : ℕ) (chip : List ℕ) → WellFormed kind update_place chip → (new : List ℕ) → MayLeave chip 0 (erased segment) new →
@@ -27,7 +27,7 @@ pub record StaysWellFormed : Type 0 where
 
 -- An SPI chip names where its update area begins.
 pub record NamedPlace : Type 0 where
-  -- The U of a well_formed chip is the one found;
+  -- The U of a well-formed chip is the one found;
   pub well_formed : (update_place : ℕ) (chip : List ℕ) → WellFormed spi update_place chip → place_answer spi chip ≡ PlaceFound update_place
   -- segment 1 begins with the words for a U that is found;
   pub found : (update_place : ℕ) (chip : List ℕ) → place_answer spi chip ≡ PlaceFound update_place → begins_for spi update_place chip ≡ true

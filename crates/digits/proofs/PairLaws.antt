@@ -19,11 +19,11 @@ module _ (text : List ℕ) where
   length_pairs zero at = refl
   length_pairs (suc k) at = ap suc (length_pairs k (at + 2))
 
-  pub getD-pairs : (j k at : ℕ) → j < k → get_or (pairs_at text at k) j 0 ≡ pair_at text (at + 2 * j)
+  pub get_or_pairs : (j k at : ℕ) → j < k → get_or (pairs_at text at k) j 0 ≡ pair_at text (at + 2 * j)
   unfolding pairs_at
-  getD-pairs j zero at h = absurd (omega arith)
-  getD-pairs zero (suc k) at h = rw add-zero refl
-  getD-pairs (suc j) (suc k) at h = getD-pairs j k (at + 2) (omega arith) ∙ rw on refl
+  get_or_pairs j zero at h = absurd (omega arith)
+  get_or_pairs zero (suc k) at h = rw add-zero refl
+  get_or_pairs (suc j) (suc k) at h = get_or_pairs j k (at + 2) (omega arith) ∙ rw on refl
 
   pub drop_pairs : (j k at : ℕ) → drop j (pairs_at text at (j + k)) ≡ pairs_at text (at + 2 * j) k
   unfolding pairs_at

@@ -42,13 +42,13 @@ put_behind d at s m x long room =
     ∙ ap (λ (l : List ℕ). l ++ drop (at + (m + 1)) d) (append_assoc (take at d) s (x ∷ []) ∙ ap (λ (l : List ℕ). take at d ++ l) (sym all))
 
 -- So does a copy to the front of what lies from the place on.
-pub paste_front : (d : List ℕ) (at : ℕ) (s after : List ℕ) → after ≡ take (length s) s ++ drop (length s) (take (length d - at) (drop at d)) →
+pub paste_front : (d : List ℕ) (at : ℕ) (s after : List ℕ) → after ≡ s ++ drop (length s) (take (length d - at) (drop at d)) →
     take at d ++ (after ++ drop (length d - at) (drop at d)) ≡ paste d at s (length s)
 paste_front d at s after e =
     let n : length (drop at d) ≡ length d - at = length-drop at d in
     let all : take (length d - at) (drop at d) ≡ drop at d = take_all (length d - at) (drop at d) (omega arith) in
     let none : drop (length d - at) (drop at d) ≡ [] = drop_of_length-le (drop at d) {i = length d - at} (omega arith) in
-    let copied : after ≡ take (length s) s ++ drop (at + length s) d = e ∙ rw (all, drop-drop (length s) at d) refl in
+    let copied : after ≡ take (length s) s ++ drop (at + length s) d = e ∙ rw (all, drop-drop (length s) at d) (ap (λ (l : List ℕ). l ++ drop (at + length s) d) (sym (take_all (length s) s (omega arith)))) in
     ap (λ (l : List ℕ). take at d ++ l) (rw none (append-nil after) ∙ copied) ∙ sym (append_assoc (take at d) (take (length s) s) (drop (at + length s) d))
 
 -- The buffer after a text of so many bytes was put at a place, where there was room for it.

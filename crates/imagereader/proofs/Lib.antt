@@ -1,5 +1,3 @@
 pub mod Laws
 mod PacketLaws
 mod ReaderLaws
-mod Shared
-mod Lending

@@ -62,7 +62,7 @@ module _ (layout : Layout) (golden : List ℕ) (room : ℕ) (built : build_answe
   off : spi.is_on (switch_word chip) ≡ false
   off = built_off layout golden room built
 
-  -- A built chip is well_formed and OFF, and no run is open.
+  -- A built chip is well-formed and OFF, and no run is open.
   begins : LifeBegins spi layout.update_place (fresh chip)
   begins = record { closed = refl; unseen = refl; formed = formed; image = λ on. absurd (false_true (sym off ∙ on)) }
 
@@ -92,7 +92,7 @@ module _ (layout : Layout) (golden : List ℕ) (room : ℕ) (built : build_answe
   claimed_as_ordered : (events : List Event) → LiterallyValid spi layout.update_place (fresh chip) events → Claim spi (Boots spi) layout.update_place golden (life spi (fresh chip) events)
   claimed_as_ordered events literal = claimed events ((as_ordered spi spi_lawful).valid layout.update_place (fresh chip) begins events literal)
 
-  -- The chip stays well_formed for its U, so it names it.
+  -- The chip stays well-formed for its U, so it names it.
   names : (events : List Event) → Valid spi layout.update_place (fresh chip) events → place_answer spi (life spi (fresh chip) events).chip ≡ PlaceFound layout.update_place
   names events valid =
       let inv = lives spi spi_lawful layout.update_place (golden_area layout.update_place chip) events (fresh chip) (begins_hold spi layout.update_place (fresh chip) begins) valid in

@@ -70,7 +70,7 @@ module _ (kind : Kind) (update_place : ℕ) where
     pub stage : Stage run.state.phase run w
     pub done : run.state.phase ≡ 7 → run.state.outcome ≡ 0 → (is_on kind w ≡ true) × (w.image ≡ some run.image)
 
-  -- THE INVARIANT. The chip is well_formed and its golden area the first one; if it is ON, the ordered image stands at U; while the last run has found and not ordered, the switch word is erased.
+  -- THE INVARIANT. The chip is well-formed and its golden area the first one; if it is ON, the ordered image stands at U; while the last run has found and not ordered, the switch word is erased.
   pub record Invariant (first_golden : List ℕ) (w : World) : Type 0 where
     pub formed : WellFormed kind update_place w.chip
     pub golden : golden_area update_place w.chip ≡ first_golden

@@ -223,7 +223,7 @@ pub record OrderedImageInPlace (kind : Kind) (update_place : ℕ) (w : World) : 
   pub alone : LoadsAlone kind image
   pub contained : ContainsAt w.chip update_place image
 
--- Where a list may start: no run open, a well_formed chip, and if it is ON an ordered image at U. (A well_formed chip that is OFF, as a built one is, needs none.)
+-- Where a list may start: no run open, a well-formed chip, and if it is ON an ordered image at U. (A well-formed chip that is OFF, as a built one is, needs none.)
 pub record LifeBegins (kind : Kind) (update_place : ℕ) (w : World) : Type 0 where
   pub closed : w.run ≡ none
   pub unseen : w.looks ≡ 0

@@ -10,7 +10,7 @@ use lib.ListN.{length, get_or}
 use Rattle.base.specs.Question.{ask}
 use Rattle.digits.specs.Digit.{byte_sum}
 use Rattle.digits.specs.Pairs.{pair_at, ArePairs, pairs_at}
-use Rattle.digits.proofs.Laws.{length_pairs, getD-pairs}
+use Rattle.digits.proofs.Laws.{length_pairs, get_or_pairs}
 use Rattle.mcsline.specs.Record.{COLON}
 use Rattle.mcsline.specs.Line.{Spelled, Pairs, Broken, by_spelled, line_spells, count_of, Refuses, typed, parsed}
 use Rattle.mcsline.specs.Place.{ending_at, line_at, Sound, Orderly, ShapeIs}
@@ -61,7 +61,7 @@ module _ (text : List ℕ) (at : ℕ) (inside : at < length text) where
       spelled text pairs (at + 1) (sym (line_spells_law text at inside colon).0 ∙ e) in
       let z : at + 1 + 2 * 0 ≡ at + 1 = omega arith in
       let count : count_of pairs ≡ pair_at text (at + 1) =
-      ap (λ (l : List ℕ). get_or l 0 0) facts.1 ∙ getD-pairs text 0 (length pairs) (at + 1) (omega arith) ∙ rw z refl in
+      ap (λ (l : List ℕ). get_or l 0 0) facts.1 ∙ get_or_pairs text 0 (length pairs) (at + 1) (omega arith) ∙ rw z refl in
       let long : length pairs ≡ pair_at text (at + 1) + 5 = n ∙ rw count refl in
       let after : at + 1 + 2 * (pair_at text (at + 1) + 5) ≡ after_pairs text at = omega arith in
       record { colon = colon; pairs = rw long at facts.0; ending = rw after at (rw long at facts.2) }

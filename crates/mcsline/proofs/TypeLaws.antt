@@ -9,7 +9,7 @@ use lib.Dec.{eqb, leb}
 use lib.ListN.{length, take, drop}
 use Rattle.base.specs.Question.{ask}
 use Rattle.digits.specs.Pairs.{pair_at, two_pairs_at, pairs_at}
-use Rattle.digits.proofs.Laws.{length_pairs, getD-pairs, drop_pairs, take_pairs}
+use Rattle.digits.proofs.Laws.{length_pairs, get_or_pairs, drop_pairs, take_pairs}
 use Rattle.mcsline.specs.Record.{Data, ExtendedLinearAddress, End}
 use Rattle.mcsline.specs.Line.{count_of, two_at, address_of, type_of, by_type, Parsed, Is, Refuses, typed}
 use Rattle.mcsline.specs.Place.{as_line}
@@ -106,22 +106,22 @@ module _ (text : List ℕ) (at count : ℕ) where
   line_pairs = pairs_at text (at + 1) (count + 5)
 
   pub count_is : count_of line_pairs ≡ pair_at text (at + 1)
-  count_is = let e : at + 1 + 2 * 0 ≡ at + 1 = omega arith in getD-pairs text 0 (count + 5) (at + 1) (omega arith) ∙ rw e refl
+  count_is = let e : at + 1 + 2 * 0 ≡ at + 1 = omega arith in get_or_pairs text 0 (count + 5) (at + 1) (omega arith) ∙ rw e refl
 
   type_is : type_of line_pairs ≡ pair_at text (at + 7)
-  type_is = let e : at + 1 + 2 * 3 ≡ at + 7 = omega arith in getD-pairs text 3 (count + 5) (at + 1) (omega arith) ∙ rw e refl
+  type_is = let e : at + 1 + 2 * 3 ≡ at + 7 = omega arith in get_or_pairs text 3 (count + 5) (at + 1) (omega arith) ∙ rw e refl
 
   address_is : address_of line_pairs ≡ two_pairs_at text (at + 3)
   address_is =
       let e : at + 1 + 2 * 1 ≡ at + 3 = omega arith in
       let f : at + 1 + 2 * 2 ≡ at + 3 + 2 = omega arith in
-      ap₂ (λ (a b : ℕ). a * 256 + b) (getD-pairs text 1 (count + 5) (at + 1) (omega arith) ∙ rw e refl) (getD-pairs text 2 (count + 5) (at + 1) (omega arith) ∙ rw f refl)
+      ap₂ (λ (a b : ℕ). a * 256 + b) (get_or_pairs text 1 (count + 5) (at + 1) (omega arith) ∙ rw e refl) (get_or_pairs text 2 (count + 5) (at + 1) (omega arith) ∙ rw f refl)
 
   half_is : 2 ≤ count → two_at line_pairs 4 ≡ two_pairs_at text (at + 9)
   half_is h =
       let e : at + 1 + 2 * 4 ≡ at + 9 = omega arith in
       let f : at + 1 + 2 * 5 ≡ at + 9 + 2 = omega arith in
-      ap₂ (λ (a b : ℕ). a * 256 + b) (getD-pairs text 4 (count + 5) (at + 1) (omega arith) ∙ rw e refl) (getD-pairs text 5 (count + 5) (at + 1) (omega arith) ∙ rw f refl)
+      ap₂ (λ (a b : ℕ). a * 256 + b) (get_or_pairs text 4 (count + 5) (at + 1) (omega arith) ∙ rw e refl) (get_or_pairs text 5 (count + 5) (at + 1) (omega arith) ∙ rw f refl)
 
   pub data_is : take count (drop 4 line_pairs) ≡ pairs_at text (at + 9) count
   data_is =

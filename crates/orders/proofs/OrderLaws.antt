@@ -32,16 +32,16 @@ phase_at order i (suc more) (suc j) d h = let e : i + 1 + j ≡ i + suc j = omeg
 -- How many orders pass a test: of two lists one after the other, and of a phase whose orders all pass it, or none of them.
 many_append : (test : Order → Bool) (a b : List Order) → how_many test (a ++ b) ≡ how_many test a + how_many test b
 unfolding how_many
-many_append test [] b = refl
+many_append test [] b = omega arith
 many_append test (order ∷ a) b = go (test order) (many_append test a b)
   where
     go : (passes : Bool) → how_many test (a ++ b) ≡ how_many test a + how_many test b →
-        elim passes [ true ↦ suc (how_many test (a ++ b)) | false ↦ how_many test (a ++ b) ] ≡ elim passes [ true ↦ suc (how_many test a) | false ↦ how_many test a ] + how_many test b
+        ◌≡◌ {A = ℕ} (elim passes [ true ↦ suc (how_many test (a ++ b)) | false ↦ how_many test (a ++ b) ]) (elim passes [ true ↦ suc (how_many test a) | false ↦ how_many test a ] + how_many test b)
     go true h = omega arith
     go false h = h
 
 many_in_phase : (test : Order → Bool) (order : ℕ → Order) (passes : Bool) (i more : ℕ) → ((j : ℕ) → j < more → test (order (i + j)) ≡ passes) →
-    how_many test (in_phase order i more) ≡ elim passes [ true ↦ more | false ↦ 0 ]
+    ◌≡◌ {A = ℕ} (how_many test (in_phase order i more)) (elim passes [ true ↦ more | false ↦ 0 ])
 unfolding how_many in_phase
 many_in_phase test order true i zero h = refl
 many_in_phase test order false i zero h = refl
@@ -53,8 +53,8 @@ many_in_phase test order passes i (suc more) h = go passes first (many_in_phase 
     later : (j : ℕ) → j < more → test (order (i + 1 + j)) ≡ passes
     later j l = let e : i + 1 + j ≡ i + suc j = omega arith in ap (λ (k : ℕ). test (order k)) e ∙ h (suc j) (omega arith)
 
-    go : (b : Bool) → test (order i) ≡ b → how_many test (in_phase order (i + 1) more) ≡ elim b [ true ↦ more | false ↦ 0 ] →
-        elim (test (order i)) [ true ↦ suc (how_many test (in_phase order (i + 1) more)) | false ↦ how_many test (in_phase order (i + 1) more) ] ≡ elim b [ true ↦ suc more | false ↦ 0 ]
+    go : (b : Bool) → test (order i) ≡ b → ◌≡◌ {A = ℕ} (how_many test (in_phase order (i + 1) more)) (elim b [ true ↦ more | false ↦ 0 ]) →
+        ◌≡◌ {A = ℕ} (elim (test (order i)) [ true ↦ suc (how_many test (in_phase order (i + 1) more)) | false ↦ how_many test (in_phase order (i + 1) more) ]) (elim b [ true ↦ suc more | false ↦ 0 ])
     go true e h' = rw e (ap suc h')
     go false e h' = rw e h'
 

@@ -2,7 +2,6 @@
 use Prim.Native.Nat.{◌-◌, ◌≤◌}
 use mathlib.Core.Path.{◌≡◌, refl, ◌∙◌}
 use native.Mathlib.Omega.{arith}
-use borrow.Author.Tests.{not-true, not-false}
 use borrow.Author.Rules.{rules}
 use lib.ListN.{length}
 use Rattle.base.specs.Question.{ask}
@@ -25,7 +24,7 @@ overflow_sub-end c = let l = data_long (told (goal.at.overflow_sub-end c).After-
 pub returns-then-not-data_fits : goal.returns-then-not-data_fits
 unfolding ask
 returns-then-not-data_fits c =
-    rw (not-true c.data_fits.result c.if-not-data_fits.true-raw) at (pass_data (told (goal.at.returns-then-not-data_fits c).After-parse-read) c.in-Data.is c.data_fits.ensures)
+    rw c.if-not-data_fits.true at (pass_data (told (goal.at.returns-then-not-data_fits c).After-parse-read) c.in-Data.is c.data_fits.ensures)
 
 pub overflow_add-next : goal.overflow_add-next
 overflow_add-next c =
@@ -41,7 +40,7 @@ pub loop-at-preserved-in-Data : goal.loop-at-preserved-in-Data
 unfolding ask
 loop-at-preserved-in-Data c =
     let l = data_long (told (goal.at.loop-at-preserved-in-Data c).After-parse-read) c.in-Data.is in
-    (omega arith, omega arith, rw (not-false c.data_fits.result c.if-not-data_fits.false-raw) at (pass_data (told (goal.at.loop-at-preserved-in-Data c).After-parse-read) c.in-Data.is c.data_fits.ensures))
+    (omega arith, omega arith, rw c.if-not-data_fits.false at (pass_data (told (goal.at.loop-at-preserved-in-Data c).After-parse-read) c.in-Data.is c.data_fits.ensures))
 
 pub overflow_sub-end-in-ExtendedLinearAddress : goal.overflow_sub-end-in-ExtendedLinearAddress
 overflow_sub-end-in-ExtendedLinearAddress c = let l = upper_long (told (goal.at.overflow_sub-end-in-ExtendedLinearAddress c).After-parse-read) c.in-ExtendedLinearAddress.is in omega arith
@@ -49,7 +48,7 @@ overflow_sub-end-in-ExtendedLinearAddress c = let l = upper_long (told (goal.at.
 pub returns-then-not-upper_fits : goal.returns-then-not-upper_fits
 unfolding ask
 returns-then-not-upper_fits c =
-    rw (not-true c.upper_fits.result c.if-not-upper_fits.true-raw) at (pass_upper (told (goal.at.returns-then-not-upper_fits c).After-parse-read) c.in-ExtendedLinearAddress.is c.upper_fits.ensures)
+    rw c.if-not-upper_fits.true at (pass_upper (told (goal.at.returns-then-not-upper_fits c).After-parse-read) c.in-ExtendedLinearAddress.is c.upper_fits.ensures)
 
 pub loop-at-smaller : goal.loop-at-smaller
 loop-at-smaller c =
@@ -60,7 +59,7 @@ pub loop-at-preserved : goal.loop-at-preserved
 unfolding ask
 loop-at-preserved c =
     let l = upper_long (told (goal.at.loop-at-preserved c).After-parse-read) c.in-ExtendedLinearAddress.is in
-    (omega arith, omega arith, rw (not-false c.upper_fits.result c.if-not-upper_fits.false-raw) at (pass_upper (told (goal.at.loop-at-preserved c).After-parse-read) c.in-ExtendedLinearAddress.is c.upper_fits.ensures))
+    (omega arith, omega arith, rw c.if-not-upper_fits.false at (pass_upper (told (goal.at.loop-at-preserved c).After-parse-read) c.in-ExtendedLinearAddress.is c.upper_fits.ensures))
 
 pub returns-then-end-text : goal.returns-then-end-text
 returns-then-end-text c = pass_more (told (goal.at.returns-then-end-text c).After-parse-read) c.in-End.is c.if-end-text.true

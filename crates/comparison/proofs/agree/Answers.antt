@@ -11,10 +11,10 @@ use Rattle.comparison.proofs.ComparisonLaws.{filled_parts}
 use Rattle.comparison.proofs.agree.Goals as goal
 
 pub returns-then-not-same : goal.returns-then-not-same
-returns-then-not-same c = absurd (false_true t)
+returns-then-not-same c t = absurd (false_true t)
 
 pub returns : goal.returns
-returns c =
+returns c t =
     let bytes = c.args.bytes.now in
     let expected = c.args.expected.now in
     let n : length expected - 0 ≡ length expected = omega arith in

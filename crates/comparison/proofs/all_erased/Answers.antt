@@ -2,7 +2,6 @@
 use Prim.Native.Nat.{ℕ, ◌-◌, ◌<◌, ◌≤◌}
 use mathlib.Core.Path.{◌≡◌, sym, ◌∙◌}
 use mathlib.Core.Bool.{true}
-use mathlib.Core.Logic.{⊎_elim}
 use native.Mathlib.Omega.{arith}
 use borrow.Author.Count.{below_more}
 use lib.ListN.{length, get_or, get_or-replicate}
@@ -11,6 +10,7 @@ use Rattle.base.proofs.Laws.{false_true}
 use Rattle.flash.specs.Flash.{erased}
 use Rattle.flash.proofs.Laws.{erased_length}
 use Rattle.comparison.proofs.all_erased.Goals as goal
+use Rattle.comparison.proofs.all_erased.Goals.{then-bytes-i, else-bytes-i}
 
 pub loop-i-init : goal.loop-i-init
 loop-i-init c = (omega arith, λ t k h. absurd (omega arith))
@@ -18,14 +18,14 @@ loop-i-init c = (omega arith, λ t k h. absurd (omega arith))
 pub loop-i-preserved : goal.loop-i-preserved
 loop-i-preserved c = (
   omega arith,
-  ⊎_elim
-      (λ w t. absurd (false_true (sym w.1 ∙ t)))
-      (λ w t. below_more _ _ (c.loop-i.invariant.1 (sym w.1 ∙ t)) w.0.left)
-      c.if-bytes-i.branch,
+  elim c.if-bytes-i.branch [
+    | then-bytes-i w ↦ λ t. absurd (false_true (sym w.all-is ∙ t))
+    | else-bytes-i w ↦ λ t. below_more _ _ (c.loop-i.invariant.1 (sym w.all-is ∙ t)) w.if-bytes-i.false
+  ],
 )
 
 pub returns : goal.returns
-returns c =
+returns c t =
     let bytes = c.args.bytes.now in
     ext_get_or 0 bytes (erased (length bytes)) (sym (erased_length (length bytes)))
     (λ k h. c.loop-i.invariant.1 t k (omega arith) ∙ sym (get_or-replicate (length bytes) k 0xFF 0 h))

@@ -1,7 +1,6 @@
 -- `comparison::first_difference` meets its contract. The loop's invariant: the first i bytes agree, so what differs is among the rest.
 use Prim.Native.Nat.{ℕ, ◌+◌, ◌-◌, ◌≤◌}
 use mathlib.Core.Path.{◌≡◌, sym, ap, ◌∙◌}
-use mathlib.Core.Logic.{⊎_elim}
 use native.Mathlib.Omega.{arith}
 use lib.ListN.{length, get_or, drop, get_or-eq_default}
 use Rattle.flash.proofs.Laws.{get_d_any}
@@ -9,7 +8,7 @@ use Rattle.comparison.specs.Comparison.{padded, differs}
 use Rattle.comparison.specs.Internal.{comparison}
 use Rattle.comparison.proofs.ComparisonLaws.{padded_at, padded_length, differs_next, differs_here, differs_end}
 use Rattle.comparison.proofs.first_difference.Goals as goal
-use Rattle.comparison.proofs.first_difference.Goals.{Joined-i-expected}
+use Rattle.comparison.proofs.first_difference.Goals.{Joined-i-expected, then-i-expected, else-i-expected}
 
 pub loop-i-init : goal.loop-i-init
 loop-i-init c =
@@ -27,10 +26,10 @@ expected-is : (c : Joined-i-expected) → c.if-i-expected.expected_byte ≡ get_
 expected-is c =
     let i = c.loop-i.i in
     let at = sym (padded_at (length c.args.bytes.now) c.args.expected.now i c.loop-i-test.true) in
-    ⊎_elim
-    (λ w. w.2 ∙ get_d_any c.args.expected.now i 0 0xFF w.0.taken ∙ at)
-    (λ w. w.1 ∙ sym (get_or-eq_default c.args.expected.now 0xFF w.0.left) ∙ at)
-    c.if-i-expected.branch
+    elim c.if-i-expected.branch [
+      | then-i-expected w ↦ w.expected_byte-is ∙ get_d_any c.args.expected.now i 0 0xFF w.if-i-expected.true ∙ at
+      | else-i-expected w ↦ w.expected_byte-is ∙ sym (get_or-eq_default c.args.expected.now 0xFF w.if-i-expected.false) ∙ at
+    ]
 
 pub returns-then-bytes-i : goal.returns-then-bytes-i
 unfolding comparison

@@ -18,4 +18,4 @@ pub count_plain_words-requires : goal.count_plain_words-requires
 count_plain_words-requires c = c.requires (omega arith)
 
 pub returns : goal.returns
-returns c = λ e. (omega arith, omega arith, λ i h. c.count_plain_words.ensures.quiet.0 i (omega (arith, h, eqb-true c.count_plain_words.result c.args.count e)))
+returns c = λ e. (omega arith, omega arith, λ i h. c.count_plain_words.ensures.quiet i (omega (arith, h, eqb-true c.count_plain_words.result c.args.count e)))

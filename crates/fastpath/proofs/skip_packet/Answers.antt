@@ -3,13 +3,11 @@ use Prim.Native.Nat.{ℕ, ◌/◌, ◌%◌, ◌≤◌}
 use mathlib.Core.Path.{◌≡◌, refl, sym, ap, ◌∙◌}
 use mathlib.Core.Bool.{true}
 use native.Mathlib.Omega.{arith}
-use borrow.Author.Tests.{not-false}
 use Rattle.framing.specs.Words.{word_at}
 use Rattle.packets.specs.Header.{register_ok, head_of}
 use Rattle.fastpath.specs.Fastpath.{PacketBegins}
 use Rattle.fastpath.specs.Types.{Type1}
 use Rattle.fastpath.proofs.SkipLaws.{past_none, begins_type1}
-use borrow.Author.Rules.{rules}
 use Rattle.fastpath.proofs.skip_packet.Goals as goal
 use Rattle.fastpath.proofs.skip_packet.Goals.{Else-not-is_type1_form, Else-not-register_ok}
 
@@ -25,9 +23,9 @@ head-is c count e ok =
 may : (c : Else-not-register_ok) → register_ok (c.args.word / 8192 % 32) ≡ true
 may c = sym c.register_ok.ensures ∙ c.if-not-register_ok.false
 
-begins : (c : Else-not-register_ok) (count : ℕ) → c.args.word % 2048 ≡ count → 1 ≤ count →
+begins : (c : Else-not-is_type1_form) (count : ℕ) → c.args.word % 2048 ≡ count → register_ok (c.args.word / 8192 % 32) ≡ true → 1 ≤ count →
     PacketBegins c.args.s.now c.args.w (c.args.word / 8192 % 32) count
-begins c count e = begins_type1 c.args.s.now c.args.w (c.args.word / 8192 % 32) count (head-is HELPER_c.Else-not-is_type1_form count e (may HELPER_c.Else-not-register_ok))
+begins c count e ok = begins_type1 c.args.s.now c.args.w (c.args.word / 8192 % 32) count (head-is c count e ok)
 
 pub skip_nops-requires : goal.skip_nops-requires
 skip_nops-requires c = let p = c.requires in (p.0, omega (arith, p.1), sym p.2 ∙ c.if-word-eq-NOP.true)
@@ -50,7 +48,7 @@ skip_words-requires c =
       p.0,
       omega (arith, p.1),
       omega arith,
-      begins (goal.at.skip_words-requires c).Else-not-register_ok 2 c.if-count-eq2.true,
+      begins (goal.at.skip_words-requires c).Else-not-is_type1_form 2 c.if-count-eq2.true (may (goal.at.skip_words-requires c).Else-not-register_ok),
       omega (arith, c.min-room.ensures),
       λ h. omega (arith, h, c.min-room.ensures, c.words_from.ensures),
     )
@@ -61,7 +59,7 @@ skip_words-requires-2 c =
       p.0,
       omega (arith, p.1),
       omega arith,
-      begins (goal.at.skip_words-requires-2 c).Else-not-register_ok (c.args.word % 2048) refl,
+      begins (goal.at.skip_words-requires-2 c).Else-not-is_type1_form (c.args.word % 2048) refl (may (goal.at.skip_words-requires-2 c).Else-not-register_ok),
       omega (arith, c.min-room.ensures),
       λ h. omega (arith, h, c.min-room.ensures, c.words_from.ensures),
     )

@@ -8,4 +8,4 @@ returns c =
     let out = c.args.out.now in
     let at = c.args.at in
     let text = c.args.text.now in
-    paste_front out at text _ c.copy.ensures.1
+    paste_front out at text _ c.copy.ensures

@@ -11,7 +11,7 @@ use Rattle.fields.proofs.put_decimal_field.Goals as goal
 pub returns : goal.returns
 returns c =
     let text = decimal c.args.value in
-    let mid = c.put_decimal-next.new.0 in
+    let mid = c.put_decimal-next.new.out in
     let digits : Put c.args.out.now c.args.at text (length text) mid = record {
       long = refl;
       room = omega arith;

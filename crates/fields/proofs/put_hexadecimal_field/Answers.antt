@@ -9,7 +9,7 @@ use Rattle.fields.proofs.put_hexadecimal_field.Goals as goal
 pub returns : goal.returns
 returns c =
     let count = c.args.count in
-    let digits : Put c.args.out.now c.args.at (hexadecimal count c.args.value) count c.put_hexadecimal.new.0 = record {
+    let digits : Put c.args.out.now c.args.at (hexadecimal count c.args.value) count c.put_hexadecimal.new.out = record {
       long = length_hexadecimal count c.args.value;
       room = omega arith;
       is = c.put_hexadecimal.ensures;

@@ -2,10 +2,10 @@
 use Rattle.runresults.specs.Counts.{progress_result}
 use Rattle.base.specs.Question.{ask}
 use Rattle.starts.specs.Starts.{progress_answer}
-use mathlib.Core.Logic.{⊎_elim}
 use mathlib.Core.Path.{sym, ap, ◌∙◌}
 use borrow.Author.Rules.{rules}
 use Rattle.hostcounts.proofs.tealsettle_progress.Goals as goal
+use Rattle.hostcounts.proofs.tealsettle_progress.Goals.{then-has_number, else-has_number}
 
 pub returns : goal.returns
 unfolding ask
@@ -13,7 +13,7 @@ returns c =
     let asked = sym c.has_number.ensures in
     c.progress_result.ensures
     ∙ ap progress_result
-    (⊎_elim
-    (λ w. rw (asked ∙ w.0.taken) (w.3 ∙ w.2.ensures.same ∙ ap progress_answer w.1.ensures))
-    (λ w. rw (asked ∙ w.0.left) w.1)
-    c.if-has_number.branch)
+    (elim c.if-has_number.branch [
+      then-has_number w ↦ rw (asked ∙ w.if-has_number.true) (w.answer-is ∙ w.progress-answer.ensures.same ∙ ap progress_answer w.state_of.ensures)
+    | else-has_number w ↦ rw (asked ∙ w.if-has_number.false) w.answer-is
+    ])

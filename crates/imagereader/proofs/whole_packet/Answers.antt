@@ -6,7 +6,6 @@ use lib.ListN.{length, drop}
 use Rattle.framing.specs.Words.{words}
 use Rattle.framing.proofs.Laws.{room}
 use Rattle.imagereader.proofs.PacketLaws.{packet_whole, packet_short, packet_ended}
-use borrow.Author.Rules.{rules}
 use Rattle.imagereader.proofs.whole_packet.Goals as goal
 use Rattle.imagereader.proofs.whole_packet.Goals.{After-min-here}
 
@@ -38,15 +37,15 @@ returns-then-run-here c =
     let args = c.args in
     let run = c.count_plain_words-run in
     c.ended_packet.ensures
-    ∙ sym (packet_ended args.image.now args.register args.first args.left f.0 run.result (omega arith) (omega arith) run.ensures.1.0 (run.ensures.1.1 c.if-run-here.true))
+    ∙ sym (packet_ended args.image.now args.register args.first args.left f.0 run.result (omega arith) (omega arith) run.ensures.quiet (run.ensures.stops c.if-run-here.true))
 
 pub returns-then-run-left : goal.returns-then-run-left
 returns-then-run-left c =
     let f = facts (goal.at.returns-then-run-left c).After-min-here in
     let args = c.args in
     let run = c.count_plain_words-run in
-    let most = run.ensures.0 in
-    sym (packet_short args.image.now args.register args.first args.left f.0 run.result (omega arith) (omega arith) run.ensures.1.0)
+    let most = run.ensures.within in
+    sym (packet_short args.image.now args.register args.first args.left f.0 run.result (omega arith) (omega arith) run.ensures.quiet)
 
 pub overflow_mul-next : goal.overflow_mul-next
 overflow_mul-next c = let f = facts (goal.at.overflow_mul-next c).After-min-here in let most = c.count_plain_words-run.ensures.within in omega (arith, c.well_formed)
@@ -59,5 +58,5 @@ returns c =
     let f = facts (goal.at.returns c).After-min-here in
     let args = c.args in
     let run = c.count_plain_words-run in
-    let most = run.ensures.0 in
-    sym (packet_whole args.image.now args.register args.first args.left f.0 run.result (omega arith) (omega arith) run.ensures.1.0)
+    let most = run.ensures.within in
+    sym (packet_whole args.image.now args.register args.first args.left f.0 run.result (omega arith) (omega arith) run.ensures.quiet)

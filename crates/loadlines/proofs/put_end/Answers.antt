@@ -32,10 +32,10 @@ returns c =
     let writes = c.args.writes in
     let long : length (end_line end writes) ≡ 21 + length (decimal writes) = length_end end writes in
     let room : at + length (end_line end writes) ≤ length out = c.requires in
-    let named : Put out at (ascii "END ") 4 c.put.new.0 = record { long = refl; room = omega arith; is = c.put.ensures } in
-    let placed = put_field named (at + 4) (hexadecimal 8 end) 8 32 c.put_hexadecimal_field.new.0 refl (length_hexadecimal 8 end) (omega arith) c.put_hexadecimal_field.ensures in
-    let apart = put_then placed (ascii "writes ") 7 c.put-2.new.0 refl (omega arith) c.put-2.ensures in
+    let named : Put out at (ascii "END ") 4 c.put.new.out = record { long = refl; room = omega arith; is = c.put.ensures } in
+    let placed = put_field named (at + 4) (hexadecimal 8 end) 8 32 c.put_hexadecimal_field.new.out refl (length_hexadecimal 8 end) (omega arith) c.put_hexadecimal_field.ensures in
+    let apart = put_then placed (ascii "writes ") 7 c.put-2.new.out refl (omega arith) c.put-2.ensures in
     record {
       value = omega arith;
-      out_after = put_whole (put_field apart (at + 20) (decimal writes) (length (decimal writes)) 10 c.put_decimal_field.new.0 refl refl (omega arith) c.put_decimal_field.ensures.out_after);
+      out_after = put_whole (put_field apart (at + 20) (decimal writes) (length (decimal writes)) 10 c.put_decimal_field.new.out refl refl (omega arith) c.put_decimal_field.ensures.out_after);
     }

@@ -20,4 +20,4 @@ returns-in-3 c =
     λ layout. c.padded_page.ensures ∙ ap (padded page) (c.carried_bytes.ensures ∙ sym (programs layout _ _ _ c.in-3.is))
 
 pub returns-in_default : goal.returns-in_default
-returns-in_default c = λ layout. ap (padded page) (sym (programs_none layout _ _ _ c.in-3.rest.1))
+returns-in_default c = λ layout. ap (padded page) (sym (programs_none layout _ _ _ c.in_default.in_default-own.rest.1))

@@ -55,6 +55,5 @@ pub returns-in_default : goal.returns-in_default
 unfolding order_of by_phase operation_of
 returns-in_default c = λ image n.
     let args = c.args in
-    let k = c.in-0.rest in
-    let last : args.phase ≡ 6 = last_phase args.layout args.image_length args.phase args.index c.requires.0 k.0.0.0.0.0.1 k.0.0.0.0.1 k.0.0.0.1 k.0.0.1 k.0.1 k.1 in
+    let last : args.phase ≡ 6 = last_phase args.layout args.image_length args.phase args.index c.requires.0 (omega arith) (omega arith) (omega arith) (omega arith) (omega arith) (omega arith) in
     rw last refl

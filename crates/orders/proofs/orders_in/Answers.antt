@@ -2,6 +2,7 @@
 use mathlib.Core.Path.{refl, sym}
 use Rattle.orders.specs.Table.{by_phase, count}
 use Rattle.orders.proofs.TableLaws.{rounded_up, count_none}
+use native.Mathlib.Omega.{arith}
 use borrow.Author.Rules.{rules}
 use Rattle.orders.proofs.orders_in.Goals as goal
 
@@ -35,5 +36,4 @@ returns-in-6 c = rw c.in-6.is refl
 
 pub returns-in_default : goal.returns-in_default
 returns-in_default c =
-    let k = c.in-0.rest in
-    sym (count_none _ _ _ k.0.0.0.0.0.0.1 k.0.0.0.0.0.1 k.0.0.0.0.1 k.0.0.0.1 k.0.0.1 k.0.1 k.1)
+    sym (count_none _ _ _ (omega arith) (omega arith) (omega arith) (omega arith) (omega arith) (omega arith) (omega arith))

@@ -26,7 +26,7 @@ loop-i-preserved c =
     let i = c.loop-i.i in
     let pair = hex (get_or args.bytes.now (args.from + i) 0 ∷ []) in
     let count : 2 * (i + 1) ≡ 2 * i + 2 = omega arith in
-    (omega arith, rw (next_digits args.bytes.now args.from i (omega arith), count) (put_then c.loop-i.invariant.1 pair 2 c.put_pair.new.0 (hex_long (get_or args.bytes.now (args.from + i) 0 ∷ [])) (omega arith) c.put_pair.ensures))
+    (omega arith, rw (next_digits args.bytes.now args.from i (omega arith), count) (put_then c.loop-i.invariant.1 pair 2 c.put_pair.new.out (hex_long (get_or args.bytes.now (args.from + i) 0 ∷ [])) (omega arith) c.put_pair.ensures))
 
 pub shape_of-out : goal.shape_of-out
 shape_of-out c = put_length c.loop-i.invariant.1

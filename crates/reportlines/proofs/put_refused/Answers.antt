@@ -28,6 +28,6 @@ returns c =
     let place = c.args.place in
     let long : length (refused_line number place) ≡ 10 + length (decimal number) + length (decimal place) = length_refused number place in
     let room : at + length (refused_line number place) ≤ length out = c.requires in
-    let named : Put out at (ascii "REFUSED ") 8 c.put.new.0 = record { long = refl; room = omega arith; is = c.put.ensures } in
-    let numbered = put_field named (at + 8) (decimal number) (length (decimal number)) 32 c.put_decimal_field-next.new.0 refl refl (omega arith) c.put_decimal_field-next.ensures.out_after in
-    put_whole (put_field numbered c.put_decimal_field-next.result (decimal place) (length (decimal place)) 10 c.put_decimal_field.new.0 (omega arith) refl (omega arith) c.put_decimal_field.ensures.out_after)
+    let named : Put out at (ascii "REFUSED ") 8 c.put.new.out = record { long = refl; room = omega arith; is = c.put.ensures } in
+    let numbered = put_field named (at + 8) (decimal number) (length (decimal number)) 32 c.put_decimal_field-next.new.out refl refl (omega arith) c.put_decimal_field-next.ensures.out_after in
+    put_whole (put_field numbered c.put_decimal_field-next.result (decimal place) (length (decimal place)) 10 c.put_decimal_field.new.out (omega arith) refl (omega arith) c.put_decimal_field.ensures.out_after)

@@ -17,5 +17,5 @@ returns c =
     let at = c.args.at in
     let place = c.args.place in
     let room : at + 15 ≤ length out = c.requires in
-    let named : Put out at (ascii "STUCK ") 6 c.put.new.0 = record { long = refl; room = omega arith; is = c.put.ensures } in
-    (put_field named (at + 6) (hexadecimal 8 place) 8 10 c.put_hexadecimal_field.new.0 refl (length_hexadecimal 8 place) (omega arith) c.put_hexadecimal_field.ensures).is
+    let named : Put out at (ascii "STUCK ") 6 c.put.new.out = record { long = refl; room = omega arith; is = c.put.ensures } in
+    (put_field named (at + 6) (hexadecimal 8 place) 8 10 c.put_hexadecimal_field.new.out refl (length_hexadecimal 8 place) (omega arith) c.put_hexadecimal_field.ensures).is

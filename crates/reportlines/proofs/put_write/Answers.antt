@@ -17,7 +17,7 @@ returns c =
     let at = c.args.at in
     let write = c.args.write in
     let room : at + 27 ≤ length out = c.requires in
-    let named : Put out at (ascii "WRITE ") 6 c.put.new.0 = record { long = refl; room = omega arith; is = c.put.ensures } in
-    let register = put_field named (at + 6) (hexadecimal 2 write.register) 2 32 c.put_hexadecimal_field.new.0 refl (length_hexadecimal 2 write.register) (omega arith) c.put_hexadecimal_field.ensures in
-    let word = put_field register (at + 9) (hexadecimal 8 write.word) 8 32 c.put_hexadecimal_field-2.new.0 refl (length_hexadecimal 8 write.word) (omega arith) c.put_hexadecimal_field-2.ensures in
-    (put_field word (at + 18) (hexadecimal 8 write.place) 8 10 c.put_hexadecimal_field-3.new.0 refl (length_hexadecimal 8 write.place) (omega arith) c.put_hexadecimal_field-3.ensures).is
+    let named : Put out at (ascii "WRITE ") 6 c.put.new.out = record { long = refl; room = omega arith; is = c.put.ensures } in
+    let register = put_field named (at + 6) (hexadecimal 2 write.register) 2 32 c.put_hexadecimal_field.new.out refl (length_hexadecimal 2 write.register) (omega arith) c.put_hexadecimal_field.ensures in
+    let word = put_field register (at + 9) (hexadecimal 8 write.word) 8 32 c.put_hexadecimal_field-2.new.out refl (length_hexadecimal 8 write.word) (omega arith) c.put_hexadecimal_field-2.ensures in
+    (put_field word (at + 18) (hexadecimal 8 write.place) 8 10 c.put_hexadecimal_field-3.new.out refl (length_hexadecimal 8 write.place) (omega arith) c.put_hexadecimal_field-3.ensures).is

@@ -1,5 +1,5 @@
 -- `pairs::decode` meets its contract. The loop's invariant: the buffer with the first i bytes of the pairs put in.
-use Rattle.digits.proofs.PairLaws.{length_pairs, getD-pairs}
+use Rattle.digits.proofs.PairLaws.{length_pairs, get_or_pairs}
 use Rattle.digits.specs.Pairs.{IsPair, pairs_at}
 use lib.Seq.{paste, paste-zero, paste-suc, length-paste}
 use lib.ListN.{length, get_or}
@@ -11,20 +11,6 @@ use mathlib.Core.List.{List}
 use mathlib.Core.Path.{◌≡◌, sym, ap, ◌∙◌}
 use Prim.Native.Nat.{ℕ, ◌+◌, ◌-◌, ◌*◌, ◌%◌, ◌≤◌}
 use Rattle.digits.proofs.pairs.decode.Goals as goal
-use Rattle.digits.proofs.pairs.decode.Goals.{At-loop-i}
-
--- At the loop: the bytes that the pairs make, and that the buffer keeps its length.
-module _ (c : At-loop-i) where
-  abbrev bytes : List ℕ
-  bytes = pairs_at c.args.text.now c.args.from c.args.bytes
-
-  all : length bytes ≡ c.args.bytes
-  all = length_pairs c.args.text.now c.args.bytes c.args.from
-
-  kept : length c.loop-i.out ≡ length c.args.out.now
-  kept =
-      let long = all in
-      ap (λ (l : List ℕ). length l) c.loop-i.invariant.1 ∙ length-paste c.args.out.now c.args.to bytes c.loop-i.i (omega arith) (omega arith)
 
 pub loop-i-init : goal.loop-i-init
 loop-i-init c = (
@@ -35,21 +21,16 @@ loop-i-init c = (
 pub pair-requires : goal.pair-requires
 pair-requires c = (omega arith, search rules)
 
-pub bounds-out-to : goal.bounds-out-to
-bounds-out-to c = let l = kept c in omega arith
-
 pub loop-i-preserved : goal.loop-i-preserved
 loop-i-preserved c =
     let args = c.args in
     let i = c.loop-i.i in
-    let long = all here in
+    let bytes = pairs_at args.text.now args.from args.bytes in
+    let long : length bytes ≡ args.bytes = length_pairs args.text.now args.bytes args.from in
     let p : IsPair args.text.now (args.from + 2 * i) = c.requires.2 i (omega arith) in
-    let v : c.pair.result % 256 ≡ get_or (bytes here) i 0 =
-    mod-eq_of_lt (omega arith) ∙ c.pair.ensures.value ∙ sym (getD-pairs args.text.now i args.bytes args.from (omega arith)) in
-    (omega arith, rw (c.loop-i.invariant.1, v, add-one) (paste-suc args.out.now args.to (bytes here) i 0 (omega arith) (omega arith)))
-
-pub shape_of-out : goal.shape_of-out
-shape_of-out c = kept c
+    let v : c.pair.result % 256 ≡ get_or bytes i 0 =
+    mod-eq_of_lt (omega arith) ∙ c.pair.ensures.value ∙ sym (get_or_pairs args.text.now i args.bytes args.from (omega arith)) in
+    (omega arith, rw (c.loop-i.invariant.1, v, add-one) (paste-suc args.out.now args.to bytes i 0 (omega arith) (omega arith)))
 
 pub returns : goal.returns
 returns c =

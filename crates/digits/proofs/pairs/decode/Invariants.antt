@@ -1,5 +1,5 @@
 -- `pairs::decode` meets its contract. The loop's invariant: the buffer with the first i bytes of the pairs put in.
-use Rattle.digits.proofs.PairLaws.{length_pairs, getD-pairs}
+use Rattle.digits.proofs.PairLaws.{length_pairs, get_or_pairs}
 use Rattle.digits.specs.Pairs.{IsPair, pairs_at}
 use lib.Seq.{paste, paste-zero, paste-suc, length-paste}
 use lib.ListN.{length, get_or}

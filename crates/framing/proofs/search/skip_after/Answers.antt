@@ -16,24 +16,24 @@ skips last r l a b d (suc (suc (suc (suc i)))) p h e = omega arith
 
 pub returns-in-85 : goal.returns-in-85
 returns-in-85 c = record {
-      range = omega arith;
-      passed = skips _ 1 (omega arith) (λ h e. absurd (omega arith)) (λ h e. absurd (omega arith)) (λ h e. absurd (omega arith));
-    }
+  range = omega arith;
+  passed = skips _ 1 (omega arith) (λ h e. absurd (omega arith)) (λ h e. absurd (omega arith)) (λ h e. absurd (omega arith));
+}
 
 pub returns-in-153 : goal.returns-in-153
 returns-in-153 c = record {
-      range = omega arith;
-      passed = skips _ 2 (omega arith) (λ h e. absurd (omega arith)) (λ h e. absurd (omega arith)) (λ h e. absurd (omega arith));
-    }
+  range = omega arith;
+  passed = skips _ 2 (omega arith) (λ h e. absurd (omega arith)) (λ h e. absurd (omega arith)) (λ h e. absurd (omega arith));
+}
 
 pub returns-in-170 : goal.returns-in-170
 returns-in-170 c = record {
-      range = omega arith;
-      passed = skips _ 3 (omega arith) (λ h e. absurd (omega arith)) (λ h e. absurd (omega arith)) (λ h e. absurd (omega arith));
-    }
+  range = omega arith;
+  passed = skips _ 3 (omega arith) (λ h e. absurd (omega arith)) (λ h e. absurd (omega arith)) (λ h e. absurd (omega arith));
+}
 
 pub returns-in_default : goal.returns-in_default
 returns-in_default c = record {
-      range = omega arith;
-      passed = skips _ 4 (omega arith) (λ h. c.in-85.rest.0.0.1) (λ h. c.in-85.rest.0.1) (λ h. c.in-85.rest.1);
-    }
+  range = omega arith;
+  passed = skips _ 4 (omega arith) (λ h e. omega arith) (λ h e. omega arith) (λ h e. omega arith);
+}

@@ -1,10 +1,10 @@
 -- `tealsettle_image_writes` meets its contract.
 use Rattle.fileresults.specs.List.{listing_result}
 use Rattle.base.specs.Question.{ask}
-use mathlib.Core.Logic.{⊎_elim}
 use mathlib.Core.Path.{sym, ap, ◌∙◌}
 use borrow.Author.Rules.{rules}
 use Rattle.hostfiles.proofs.list.tealsettle_image_writes.Goals as goal
+use Rattle.hostfiles.proofs.list.tealsettle_image_writes.Goals.{then-has_number, else-has_number}
 
 pub returns : goal.returns
 unfolding ask
@@ -12,7 +12,7 @@ returns c =
     let asked = sym c.has_number.ensures in
     c.listing_result.ensures
     ∙ ap listing_result
-    (⊎_elim
-    (λ w. rw (asked ∙ w.0.taken) (w.2 ∙ w.1.ensures.same))
-    (λ w. rw (asked ∙ w.0.left) w.1)
-    c.if-has_number.branch)
+    (elim c.if-has_number.branch [
+      then-has_number w ↦ rw (asked ∙ w.if-has_number.true) (w.answer-is ∙ w.writes-answer.ensures.same)
+    | else-has_number w ↦ rw (asked ∙ w.if-has_number.false) w.answer-is
+    ])

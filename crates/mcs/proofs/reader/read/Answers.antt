@@ -6,6 +6,6 @@ use Rattle.mcs.proofs.reader.read.Goals as goal
 
 pub returns : goal.returns
 returns c = record {
-      answer = gives read_numbers _ _ c.read_by_lem.ensures.0;
-      output = c.read_by_lem.ensures.1;
-    }
+  answer = gives read_numbers _ _ c.read_by.ensures.answer;
+  output = c.read_by.ensures.output;
+}

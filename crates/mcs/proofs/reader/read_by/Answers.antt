@@ -10,7 +10,7 @@ pub returns-then-out-length : goal.returns-then-out-length
 returns-then-out-length c =
     let reading = read_text c.args.text.now in
     let out = c.args.out.now in
-    let sized = sym c.type_size.ensures ∙ c.in-Total.is in
+    let sized = sym c.size_of-sized.ensures ∙ c.in-Total.is in
     let answer = small_answer out reading c.in-Total.length sized (omega arith) in
     record {
       answer = sym answer.0;
@@ -21,14 +21,14 @@ pub fill-requires : goal.fill-requires
 fill-requires c =
     let reading = read_text c.args.text.now in
     let out = c.args.out.now in
-    let sized = sym c.type_size.ensures ∙ c.in-Total.is in
+    let sized = sym c.size_of-sized.ensures ∙ c.in-Total.is in
     ((good_answer out reading c.in-Total.length sized (omega arith)).1, search rules)
 
 pub returns-else-out-length : goal.returns-else-out-length
 returns-else-out-length c =
     let reading = read_text c.args.text.now in
     let out = c.args.out.now in
-    let sized = sym c.type_size.ensures ∙ c.in-Total.is in
+    let sized = sym c.size_of-sized.ensures ∙ c.in-Total.is in
     record {
       answer = sym (good_answer out reading c.in-Total.length sized (omega arith)).0;
       output = c.fill.ensures;
@@ -38,7 +38,7 @@ pub returns-in-Refused : goal.returns-in-Refused
 returns-in-Refused c =
     let reading = read_text c.args.text.now in
     let out = c.args.out.now in
-    let sized = sym c.type_size.ensures ∙ c.in-Refused.is in
+    let sized = sym c.size_of-sized.ensures ∙ c.in-Refused.is in
     let answer = refused_answer out reading c.in-Refused.number c.in-Refused.place sized in
     record {
       answer = sym answer.0;

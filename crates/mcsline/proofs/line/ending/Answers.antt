@@ -10,15 +10,15 @@ use Rattle.mcsline.proofs.line.ending.Goals as goal
 
 pub returns-then-text-at-eq-LF : goal.returns-then-text-at-eq-LF
 returns-then-text-at-eq-LF c = record {
-      value = sym (ending_lf _ _ (eq-eqb _ _ c.if-text-at-eq-LF.true));
-      range = omega arith;
-    }
+  value = sym (ending_lf _ _ (eq-eqb _ _ c.if-text-at-eq-LF.true));
+  range = omega arith;
+}
 
 pub returns-then-text-at-ne-CR : goal.returns-then-text-at-ne-CR
 returns-then-text-at-ne-CR c = record {
-      value = sym (ending_none _ _ (ne_eqb _ _ c.if-text-at-eq-LF.false) (ne_eqb _ _ c.if-text-at-ne-CR.true));
-      range = omega arith;
-    }
+  value = sym (ending_none _ _ (ne_eqb _ _ c.if-text-at-eq-LF.false) (ne_eqb _ _ c.if-text-at-ne-CR.true));
+  range = omega arith;
+}
 
 pub returns-then-text-at-lt2 : goal.returns-then-text-at-lt2
 returns-then-text-at-lt2 c =
@@ -30,12 +30,12 @@ returns-then-text-at-lt2 c =
 
 pub returns-then-text-at-eq-LF-2 : goal.returns-then-text-at-eq-LF-2
 returns-then-text-at-eq-LF-2 c = record {
-      value = sym (ending_crlf _ _ (ne_eqb _ _ c.if-text-at-eq-LF.false) (eq-eqb _ _ c.if-text-at-ne-CR.false) (eq-eqb _ _ c.if-text-at-eq-LF-2.true));
-      range = omega arith;
-    }
+  value = sym (ending_crlf _ _ (ne_eqb _ _ c.if-text-at-eq-LF.false) (eq-eqb _ _ c.if-text-at-ne-CR.false) (eq-eqb _ _ c.if-text-at-eq-LF-2.true));
+  range = omega arith;
+}
 
 pub returns-else-text-at-eq-LF-2 : goal.returns-else-text-at-eq-LF-2
 returns-else-text-at-eq-LF-2 c = record {
-      value = sym (ending_cr _ _ (ne_eqb _ _ c.if-text-at-eq-LF.false) (eq-eqb _ _ c.if-text-at-ne-CR.false) (ne_eqb _ _ c.if-text-at-eq-LF-2.false));
-      range = omega arith;
-    }
+  value = sym (ending_cr _ _ (ne_eqb _ _ c.if-text-at-eq-LF.false) (eq-eqb _ _ c.if-text-at-ne-CR.false) (ne_eqb _ _ c.if-text-at-eq-LF-2.false));
+  range = omega arith;
+}

@@ -18,22 +18,22 @@ module _ (c : Start) where
   long = formed_long c.args.text.now c.args.at c.requires.0 formed
 
 pub pair-count-requires : goal.pair-count-requires
-pair-count-requires c = let l = long c in (omega arith, search rules)
+pair-count-requires c = let l = long (goal.at.pair-count-requires c).Start in (omega arith, search rules)
 
 pub ending-requires : goal.ending-requires
-ending-requires c = let l = long c in omega arith
+ending-requires c = let l = long (goal.at.ending-requires c).Start in omega arith
 
 pub overflow_add-end : goal.overflow_add-end
-overflow_add-end c = let l = long c in record { fits = omega arith }
+overflow_add-end c = let l = long (goal.at.overflow_add-end c).Start in record { fits = omega arith }
 
 pub typed_line-requires : goal.typed_line-requires
-typed_line-requires c = let l = long c in (omega arith, c.pair-count.ensures.value, search rules)
+typed_line-requires c = let l = long (goal.at.typed_line-requires c).Start in (omega arith, c.pair-count.ensures.value, search rules)
 
 pub returns : goal.returns
 returns c =
     let text = c.args.text.now in
     let at = c.args.at in
-    let l = long start in
+    let l = long (goal.at.returns c).Start in
     let count = c.pair-count.result in
-    let o : Orderly text at count (at + 2 * count + 11 + c.ending.result) = rw (c.ending.ensures.value, c.pair-count.ensures.value) (orderly text at c.requires.0 (formed start)) in
+    let o : Orderly text at count (at + 2 * count + 11 + c.ending.result) = rw (c.ending.ensures.value, c.pair-count.ensures.value) (orderly text at c.requires.0 (formed (goal.at.returns c).Start)) in
     c.typed_line.ensures ∙ ap₂ as_line (sym (sound_typed text at count _ o c.requires.1)) o.ends

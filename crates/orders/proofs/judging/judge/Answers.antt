@@ -34,7 +34,7 @@ the-look : (c : Else-not-is_as_asked) → Looks c.args.layout c.args.image.now c
 the-look c =
     let args = c.args in
     let place = c.in-Look.place in
-    let o = sym (the-order HELPER_c.After-operation_at-operation) ∙ c.in-Look.is in
+    let o = sym (c.operation_at-operation.ensures args.image.now refl) ∙ c.in-Look.is in
     let asked = asked_for 1 c.in-Look.length args.reply_kind (length args.bytes.now) (sym c.is_as_asked.ensures ∙ c.if-not-is_as_asked.false) in
     looks args.layout args.image.now args.phase args.index place (length args.bytes.now) c.requires.1 (o ∙ ap (Look place) (sym asked.1))
 

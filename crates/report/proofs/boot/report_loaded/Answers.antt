@@ -32,7 +32,7 @@ returns c =
     let cursor = c.new-cursor in
     let put = c.put_report-length in
     let room = sym c.has_room.ensures ∙ c.if-not-has_room.false in
-    let answer = loaded_put args.chip.now args.sync args.end args.writes args.jumped c.requires cursor.result cursor.ensures args.out.now put.new.1.1.0 put.result room put.ensures.0 put.ensures.1 in
+    let answer = loaded_put args.chip.now args.sync args.end args.writes args.jumped c.requires cursor.result cursor.ensures args.out.now put.new.out put.result room put.ensures.value put.ensures.out_after in
     record {
       value = sym answer.0;
       out_after = sym answer.1;

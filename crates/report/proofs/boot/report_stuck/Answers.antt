@@ -20,7 +20,7 @@ returns-then-out-lt-STUCK c =
 pub returns : goal.returns
 returns c =
     let line = stuck_line c.args.place in
-    let put : Put c.args.out.now 0 line 15 c.put_stuck.new.0 = record {
+    let put : Put c.args.out.now 0 line 15 c.put_stuck.new.out = record {
       long = length_stuck c.args.place;
       room = omega arith;
       is = c.put_stuck.ensures;

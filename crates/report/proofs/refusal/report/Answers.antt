@@ -23,10 +23,10 @@ returns-then-out-length c =
 pub returns : goal.returns
 returns c =
     let line = refused_line c.args.number c.args.place in
-    let put : Put c.args.out.now 0 line c.refused_length-length.result c.Put_refused.new.0 = record {
+    let put : Put c.args.out.now 0 line c.refused_length-length.result c.put_refused.new.out = record {
       long = sym c.refused_length-length.ensures;
       room = omega arith;
-      is = c.Put_refused.ensures ∙ ap (λ (k : ℕ). paste c.args.out.now 0 line k) (sym c.refused_length-length.ensures);
+      is = c.put_refused.ensures ∙ ap (λ (k : ℕ). paste c.args.out.now 0 line k) (sym c.refused_length-length.ensures);
     } in
     let answer = put_answer put in
     record {

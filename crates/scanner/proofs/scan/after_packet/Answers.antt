@@ -2,7 +2,6 @@
 use Prim.Native.Nat.{ℕ, ◌+◌, ◌-◌, ◌*◌}
 use mathlib.Core.Path.{◌≡◌, refl, sym, ap, ◌∙◌}
 use mathlib.Core.Bool.{true, false}
-use mathlib.Core.Logic.{⊎_elim}
 use native.Mathlib.Omega.{arith}
 use borrow.Author.Tests.{eq-eqb, ne_eqb}
 use lib.Dec.{eqb}
@@ -10,9 +9,8 @@ use lib.ListN.{get_or, drop}
 use Rattle.framing.specs.Words.{words}
 use Rattle.packets.specs.Header.{WBSTAR}
 use Rattle.framing.proofs.Laws.{word_after}
-use borrow.Author.Rules.{rules}
 use Rattle.scanner.proofs.scan.after_packet.Goals as goal
-use Rattle.scanner.proofs.scan.after_packet.Goals.{Joined-w-eq-WBSTAR}
+use Rattle.scanner.proofs.scan.after_packet.Goals.{Joined-w-eq-WBSTAR, then-w-eq-WBSTAR, else-w-eq-WBSTAR}
 
 wbstar-is : (c : Joined-w-eq-WBSTAR) →
     c.if-w-eq-WBSTAR.wbstar ≡ elim (eqb c.args.w.register WBSTAR) [ true ↦ get_or (words (drop c.args.w.at c.args.s.now)) (c.args.w.left - 1) 0 | false ↦ c.args.w.wbstar ]
@@ -20,10 +18,12 @@ wbstar-is c =
     let s = c.args.s.now in
     let w = c.args.w in
     let e : w.at + 4 * w.left - 4 ≡ w.at + 4 * (w.left - 1) = omega (arith, c.requires) in
-    ⊎_elim
-    (λ v. rw (eq-eqb w.register WBSTAR v.0.taken) (v.2 ∙ v.1.ensures ∙ ap (λ (n : ℕ). get_or (words (drop n s)) 0 0) e ∙ sym (word_after s w.at (w.left - 1))))
-    (λ v. rw (ne_eqb w.register WBSTAR v.0.left) v.1)
-    c.if-w-eq-WBSTAR.branch
+    elim c.if-w-eq-WBSTAR.branch [
+      | then-w-eq-WBSTAR v ↦
+          rw (eq-eqb w.register WBSTAR v.if-w-eq-WBSTAR.true)
+          (v.wbstar-is ∙ v.word_at.ensures ∙ ap (λ (n : ℕ). get_or (words (drop n s)) 0 0) e ∙ sym (word_after s w.at (w.left - 1)))
+      | else-w-eq-WBSTAR v ↦ rw (ne_eqb w.register WBSTAR v.if-w-eq-WBSTAR.false) v.wbstar-is
+    ]
 
 pub returns : goal.returns
 returns c = rw (wbstar-is (goal.at.returns c).Joined-w-eq-WBSTAR) refl

@@ -1,21 +1,21 @@
 -- `scan::count_plain_words` meets its contract.
-use Prim.Native.Nat.{ℕ, ◌-◌, ◌≤◌, ◌<◌}
 use mathlib.Core.Path.{◌≡◌, sym, ap, ◌∙◌}
-use mathlib.Core.Logic.{⊎_elim}
 use native.Mathlib.Omega.{arith}
-use borrow.Author.Rules.{rules}
 use borrow.Author.Count.{below_more}
 use lib.ListN.{get_or, drop}
 use Rattle.framing.specs.Words.{words}
 use Rattle.packets.specs.Header.{effect_of}
-use Rattle.scanner.specs.Types.{GoesOn}
 use Rattle.framing.proofs.Laws.{room, word_after}
 use Rattle.scanner.proofs.ScanLaws.{other_plain}
 use Rattle.scanner.proofs.scan.count_plain_words.Goals as goal
 use Rattle.scanner.proofs.scan.count_plain_words.Goals.{After-effect_of-effect}
 
 pub returns-then-register-ne-CMD : goal.returns-then-register-ne-CMD
-returns-then-register-ne-CMD c = (omega arith, (λ i h. other_plain _ _ c.if-register-ne-CMD.true, λ h e. omega arith))
+returns-then-register-ne-CMD c = record {
+  within = omega arith;
+  quiet = λ i h. other_plain _ _ c.if-register-ne-CMD.true;
+  stops = λ h e. omega arith;
+}
 
 pub loop-i-init : goal.loop-i-init
 loop-i-init c = (omega arith, λ k h. absurd (omega arith))
@@ -35,18 +35,14 @@ effect_is c =
     ap (effect_of c.args.register) (word_after c.args.s.now c.args.at c.loop-i.i ∙ sym c.word_at.ensures) ∙ sym c.effect_of-effect.ensures
 
 pub returns-in_default : goal.returns-in_default
-returns-in_default c = (
-  omega arith,
-  (
-    c.loop-i.invariant.1,
-    λ h e.
-        let q : c.effect_of-effect.result ≡ GoesOn = sym (effect_is (goal.at.returns-in_default c).After-effect_of-effect) ∙ e in
-        ⊎_elim (λ z. omega arith) (λ z. omega arith) (rw q at c.in-GoesOn.keys2),
-  ),
-)
+returns-in_default c = record {
+  within = omega arith;
+  quiet = c.loop-i.invariant.1;
+  stops = λ h e. c.in_default.not-GoesOn (sym (effect_is (goal.at.returns-in_default c).After-effect_of-effect) ∙ e);
+}
 
 pub loop-i-preserved : goal.loop-i-preserved
 loop-i-preserved c = (omega arith, below_more _ _ c.loop-i.invariant.1 (effect_is (goal.at.loop-i-preserved c).After-effect_of-effect ∙ c.in-GoesOn.is))
 
 pub returns : goal.returns
-returns c = (omega arith, (c.loop-i.invariant.1, λ h. absurd (omega arith)))
+returns c = record { within = omega arith; quiet = c.loop-i.invariant.1; stops = λ h. absurd (omega arith) }

@@ -6,7 +6,6 @@ use lib.ListN.{length, drop}
 use Rattle.framing.specs.Words.{words}
 use Rattle.framing.proofs.Laws.{room}
 use Rattle.scanner.proofs.ScanLaws.{data_short, data_past, data_reached, data_end}
-use borrow.Author.Rules.{rules}
 use Rattle.scanner.proofs.scan.data_step.Goals as goal
 use Rattle.scanner.proofs.scan.data_step.Goals.{After-count_plain_words-run}
 
@@ -27,7 +26,7 @@ scan_end-requires c = let f = facts (goal.at.scan_end-requires c).After-count_pl
 pub returns-then-run-most : goal.returns-then-run-most
 returns-then-run-most c = let f = facts (goal.at.returns-then-run-most c).After-count_plain_words-run in
     rw c.scan_end.ensures
-    (data_end c.args.s.now c.args.w c.requires.0 c.requires.1 c.requires.2 c.count_plain_words-run.result (omega arith) (omega arith) (omega arith) c.count_plain_words-run.ensures.quiet.0 (c.count_plain_words-run.ensures.quiet.1 c.if-run-most.true))
+    (data_end c.args.s.now c.args.w c.requires.0 c.requires.1 c.requires.2 c.count_plain_words-run.result (omega arith) (omega arith) (omega arith) c.count_plain_words-run.ensures.quiet (c.count_plain_words-run.ensures.stops c.if-run-most.true))
 
 pub reached-requires : goal.reached-requires
 reached-requires c = let f = facts (goal.at.reached-requires c).After-count_plain_words-run in (omega arith, omega (arith, c.well_formed))
@@ -35,15 +34,15 @@ reached-requires c = let f = facts (goal.at.reached-requires c).After-count_plai
 pub returns-then-most-here : goal.returns-then-most-here
 returns-then-most-here c = let f = facts (goal.at.returns-then-most-here c).After-count_plain_words-run in
     rw c.reached.ensures
-    (data_reached c.args.s.now c.args.w c.requires.0 c.requires.1 c.requires.2 c.min-most.result (omega arith) (omega arith) (omega arith) (λ i h. c.count_plain_words-run.ensures.quiet.0 i (omega arith)))
+    (data_reached c.args.s.now c.args.w c.requires.0 c.requires.1 c.requires.2 c.min-most.result (omega arith) (omega arith) (omega arith) (λ i h. c.count_plain_words-run.ensures.quiet i (omega arith)))
 
 pub returns-then-here-w : goal.returns-then-here-w
 returns-then-here-w c = let f = facts (goal.at.returns-then-here-w c).After-count_plain_words-run in
-    rw c.stopped.ensures (data_short c.args.s.now c.args.w c.requires.0 c.requires.1 c.requires.2 (omega arith) (omega arith) (λ i h. c.count_plain_words-run.ensures.quiet.0 i (omega arith)))
+    rw c.stopped.ensures (data_short c.args.s.now c.args.w c.requires.0 c.requires.1 c.requires.2 (omega arith) (omega arith) (λ i h. c.count_plain_words-run.ensures.quiet i (omega arith)))
 
 pub after_packet-requires : goal.after_packet-requires
 after_packet-requires c = let f = facts (goal.at.after_packet-requires c).After-count_plain_words-run in (c.requires.1, omega arith, omega arith, c.requires.2)
 
 pub returns : goal.returns
 returns c = let f = facts (goal.at.returns c).After-count_plain_words-run in
-    rw c.after_packet.ensures (data_past c.args.s.now c.args.w c.requires.0 c.requires.1 c.requires.2 (omega arith) (omega arith) (λ i h. c.count_plain_words-run.ensures.quiet.0 i (omega arith)))
+    rw c.after_packet.ensures (data_past c.args.s.now c.args.w c.requires.0 c.requires.1 c.requires.2 (omega arith) (omega arith) (λ i h. c.count_plain_words-run.ensures.quiet i (omega arith)))

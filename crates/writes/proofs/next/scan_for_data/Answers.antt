@@ -1,9 +1,7 @@
 -- `next::scan_for_data` meets its contract: the scanner passes no write, so it comes to the first.
 use Prim.Native.Nat.{ℕ}
 use mathlib.Core.Path.{◌≡◌, sym, ap, ◌∙◌}
-use mathlib.Core.Logic.{⊎_elim}
 use native.Mathlib.Omega.{arith}
-use borrow.Author.Rules.{rules}
 use Rattle.packets.specs.Trace.{trace_from}
 use Rattle.scanner.specs.Scan.{scan_of, InBoundsBy}
 use Rattle.scanner.proofs.Laws.{at_write, at_end}
@@ -17,12 +15,12 @@ use Rattle.writes.proofs.next.scan_for_data.Goals.{After-scan-w}
 came : (c : After-scan-w) (n : ℕ) → step_scanned (scan_of c.args.s.now c.scan-w.result) n ≡ first_of (trace_from c.args.s.now c.args.from) n
 came c n =
     let args = c.args in
-    ap (λ r. step_scanned r n) c.scan-w.ensures.bounds.1 ∙ first_scan args.s.now args.from n
+    ap (λ r. step_scanned r n) c.scan-w.ensures.comes ∙ first_scan args.s.now args.from n
 
 pub returns-in_default : goal.returns-in_default
 unfolding step_scanned step_at
 returns-in_default c = λ n.
-    let end = at_end c.args.s.now c.scan-w.result c.scan-w.ensures.stopped (λ e. ⊎_elim (λ z. omega arith) (⊎_elim (λ z. omega arith) (⊎_elim (λ z. omega arith) (⊎_elim (λ z. omega arith) (λ z. omega arith)))) (rw e at c.in-Reached.keys2)) in
+    let end = at_end c.args.s.now c.scan-w.result c.scan-w.ensures.stopped c.in_default.not-Reached in
     rw end.1 at (came (goal.at.returns-in_default c).After-scan-w n)
 
 pub returns : goal.returns
@@ -30,5 +28,5 @@ unfolding step_scanned step_at InBoundsBy
 returns c = λ n.
     let s = c.args.s.now in
     let w = c.scan-w.result in
-    let whole = rw c.in-Reached.is at c.scan-w.ensures.bounds.0 in
+    let whole = rw c.in-Reached.is at c.scan-w.ensures.bounds in
     sym (data_word s w.at w.register w.left (omega (arith, room s w.at, whole)) n) ∙ rw (at_write s w c.in-Reached.is) at (came (goal.at.returns c).After-scan-w n)

@@ -2,7 +2,6 @@
 use Prim.Native.Nat.{ℕ, suc, ◌+◌, ◌-◌, ◌≤◌}
 use mathlib.Core.Path.{◌≡◌, refl, sym, ap, ◌∙◌}
 use native.Mathlib.Omega.{arith}
-use borrow.Author.Rules.{rules}
 use lib.ListN.{length}
 use Rattle.framing.proofs.Laws.{room}
 use Rattle.writes.specs.Cursor.{after_write}
@@ -24,11 +23,11 @@ pub returns-then-words_from-eq0 : goal.returns-then-words_from-eq0
 unfolding step_at
 returns-then-words_from-eq0 c =
     let args = c.args in
-    let next = c.next-1.given in
+    let next = c.in-At in
     let left = args.remaining - 1 in
     let more : args.remaining ≡ suc left = omega arith in
-    no_word args.s.now next.0.0 _ (omega (arith, c.words_from.ensures)) left
-    ∙ ap (λ at. step_at args.s.now at left) (sym next.1)
+    no_word args.s.now next.at _ (omega (arith, c.words_from.ensures)) left
+    ∙ ap (λ at. step_at args.s.now at left) (sym next.is)
     ∙ step_more_law args.s.now args.next args.remaining left more
 
 -- the word lies whole within the bytes
@@ -45,12 +44,12 @@ pub returns : goal.returns
 unfolding step_at
 returns c =
     let args = c.args in
-    let next = c.next-1.given in
-    let written : ℕ → Write = λ word. record { register = next.0.1.0; word = word; place = next.0.0 } in
+    let next = c.in-At in
+    let written : ℕ → Write = λ word. record { register = next.register; word = word; place = next.at } in
     let left = args.remaining - 1 in
     let more : args.remaining ≡ suc left = omega arith in
     ap (Wrote (written c.word_at.result)) c.after_write.ensures
-    ∙ ap (λ word. Wrote (written word) (after_write (written word) next.0.1.1.0 left)) c.word_at.ensures
-    ∙ data_word args.s.now next.0.0 next.0.1.0 next.0.1.1.0 (omega (arith, c.words_from.ensures)) left
-    ∙ ap (λ at. step_at args.s.now at left) (sym next.1)
+    ∙ ap (λ word. Wrote (written word) (after_write (written word) next.more left)) c.word_at.ensures
+    ∙ data_word args.s.now next.at next.register next.more (omega (arith, c.words_from.ensures)) left
+    ∙ ap (λ at. step_at args.s.now at left) (sym next.is)
     ∙ step_more_law args.s.now args.next args.remaining left more

@@ -2,7 +2,6 @@
 use Prim.Native.Nat.{ℕ}
 use mathlib.Core.Path.{◌≡◌, sym, ◌∙◌}
 use native.Mathlib.Omega.{arith}
-use borrow.Author.Rules.{rules}
 use Rattle.packets.specs.Trace.{finish_from}
 use Rattle.scanner.specs.Scan.{ScanFinished, scan_of}
 use Rattle.scanner.proofs.Laws.{at_write, finish_scan}
@@ -12,7 +11,7 @@ use Rattle.writes.proofs.reading.finish_from.Goals.{After-scan}
 finished : (c : After-scan) → scan_of c.args.s.now c.scan.result ≡ ScanFinished (finish_from c.args.s.now c.args.from)
 finished c =
     let args = c.args in
-    c.scan.ensures.bounds.1 ∙ finish_scan args.s.now args.from
+    c.scan.ensures.comes ∙ finish_scan args.s.now args.from
 
 pub finish_of-requires : goal.finish_of-requires
 finish_of-requires c = (

@@ -1,10 +1,7 @@
 -- `reading::scan` meets its contract. The invariant: the scanner here comes to what the scanner at the start comes to.
-use mathlib.Core.Path.{◌≡◌, refl, ◌∙◌}
-use mathlib.Core.Logic.{⊎_elim}
+use mathlib.Core.Path.{refl, ◌∙◌}
 use native.Mathlib.Omega.{arith}
-use borrow.Author.Rules.{rules}
-use lib.ListN.{length}
-use Rattle.scanner.specs.Scan.{scan_of, scanner_from, InBoundsBy, InBounds, bytes_left}
+use Rattle.scanner.specs.Scan.{InBoundsBy, bytes_left}
 use Rattle.writes.proofs.reading.scan.Goals as goal
 
 pub loop-w-init : goal.loop-w-init
@@ -12,10 +9,11 @@ unfolding InBoundsBy
 loop-w-init c = rw c.from_sync-w.ensures (omega arith, refl)
 
 pub returns-in_default : goal.returns-in_default
-returns-in_default c = (
-  λ e. ⊎_elim (λ z. omega arith) (⊎_elim (λ z. omega arith) (⊎_elim (λ z. omega arith) (⊎_elim (λ z. omega arith) (λ z. omega arith)))) (rw e at c.in-Going.keys2),
-  c.loop-w.invariant,
-)
+returns-in_default c = record {
+  stopped = c.in_default.not-Going;
+  bounds = c.loop-w.invariant.0;
+  comes = c.loop-w.invariant.1;
+}
 
 pub skip_packets-requires : goal.skip_packets-requires
 unfolding InBoundsBy
