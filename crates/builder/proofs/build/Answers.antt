@@ -20,11 +20,19 @@ returns-in-Allowed c =
     let e = rw a at (by_layout BuildRefused (golden_answer spi c.args.layout c.args.golden.now (length c.args.out.now)) c.args.layout) in
     let r = c.build_allowed.ensures.answer ∙ e in
     let o = c.build_allowed.ensures.output ∙ ap (λ (a : BuildAnswer). output_of spi a c.args.layout c.args.golden.now c.args.out.now) e in
-    (gives build_numbers _ _ r, (o, rw (r, o) (build_loads c.args.layout c.args.golden.now c.args.out.now)))
+    record {
+      answer = gives build_numbers _ _ r;
+      output = o;
+      loads = rw (r, o) (build_loads c.args.layout c.args.golden.now c.args.out.now);
+    }
 
 pub returns-in-Refused : goal.returns-in-Refused
 unfolding build_answer on_layout output_of
 returns-in-Refused c =
     let a = sym c.check-allowed.ensures.same ∙ c.in-Refused.is in
     let e = rw a at (by_layout BuildRefused (golden_answer spi c.args.layout c.args.golden.now (length c.args.out.now)) c.args.layout) in
-    (gives build_numbers _ _ e, (ap (λ (a : BuildAnswer). output_of spi a c.args.layout c.args.golden.now c.args.out.now) e, rw (sym e) at (build_loads c.args.layout c.args.golden.now c.args.out.now)))
+    record {
+      answer = gives build_numbers _ _ e;
+      output = ap (λ (a : BuildAnswer). output_of spi a c.args.layout c.args.golden.now c.args.out.now) e;
+      loads = rw (sym e) at (build_loads c.args.layout c.args.golden.now c.args.out.now);
+    }

@@ -19,10 +19,10 @@ returns c =
     let erasing = c.erase in
     let heading = c.warm_boot_words-words in
     let writing = c.overwrite in
-    let blank : ◌≡◌ {A = List ℕ} _ (overwrite_in_range out 0 layout.chip_length (erased layout.chip_length)) = erasing.ensures.1 in
+    let blank : ◌≡◌ {A = List ℕ} _ (overwrite_in_range out 0 layout.chip_length (erased layout.chip_length)) = erasing.ensures.output in
     let words : ◌≡◌ {A = List ℕ} _ (spi_warm_boot layout.update_place) = heading.ensures in
-    let headed : ◌≡◌ {A = List ℕ} _ (overwrite_in_range erasing.new.0 segment (length heading.result) heading.result) = writing.ensures.1 in
-    let whole : ◌≡◌ {A = List ℕ} _ (overwrite_in_range writing.new.0 golden_at (length golden) golden) = c.overwrite-2.ensures.output in
+    let headed : ◌≡◌ {A = List ℕ} _ (overwrite_in_range erasing.new.chip segment (length heading.result) heading.result) = writing.ensures.output in
+    let whole : ◌≡◌ {A = List ℕ} _ (overwrite_in_range writing.new.chip golden_at (length golden) golden) = c.overwrite-2.ensures.output in
     whole
     ∙ ap (λ (l : List ℕ). overwrite_in_range l golden_at (length golden) golden) (headed ∙ ap₂ (λ (l w : List ℕ). overwrite_in_range l segment (length w) w) blank words)
     ∙ built_written layout golden (omega arith) out (omega arith)

@@ -21,10 +21,10 @@ returns c =
     let zeros = c.fill in
     let front = c.put_opening in
     let desync = c.overwrite in
-    let one : zeros.new.0 ≡ overwrite_in_range out 0 last (replicate last 0) = zeros.ensures.1 in
-    let two : front.new.1.1.0 ≡ overwrite_in_range zeros.new.0 0 (length (opening (n / 4))) (opening (n / 4)) = front.ensures in
-    let three : desync.new.0 ≡ overwrite_in_range front.new.1.1.0 last 4 desync_bytes = desync.ensures.1 in
-    let four : c.erase.new.0 ≡ overwrite_in_range desync.new.0 (last + 4) (n % 4) (erased (n % 4)) = c.erase.ensures.output in
+    let one : zeros.new.chip ≡ overwrite_in_range out 0 last (replicate last 0) = zeros.ensures.output in
+    let two : front.new.out ≡ overwrite_in_range zeros.new.chip 0 (length (opening (n / 4))) (opening (n / 4)) = front.ensures in
+    let three : desync.new.chip ≡ overwrite_in_range front.new.out last 4 desync_bytes = desync.ensures.output in
+    let four : c.erase.new.chip ≡ overwrite_in_range desync.new.chip (last + 4) (n % 4) (erased (n % 4)) = c.erase.ensures.output in
     four
     ∙ ap (λ (l : List ℕ). overwrite_in_range l (last + 4) (n % 4) (erased (n % 4)))
     (three

@@ -1,7 +1,6 @@
 -- `boot::write` meets its contract.
 use borrow.Author.Tests.{not-true, not-false}
 use mathlib.Core.Bool.{false}
-use mathlib.Core.Logic.{⊎_elim}
 use Rattle.base.proofs.Laws.{gives}
 use Rattle.kind.specs.Spi.{spi}
 use Rattle.bootreader.specs.Types.{Outcome, Loaded, OutcomeIprog, Stuck, NoWrite}
@@ -24,7 +23,7 @@ unfolding chip_write ask listed nth_write
 returns-in_default c = gives write_numbers _ _ (go c.read_chip-outcome.result refl)
   where
     go : (o : Outcome) → c.read_chip-outcome.result ≡ o → NoWrite ≡ chip_write spi c.args.chip.now c.args.i
-    go (Loaded sync end writes jumped) e = absurd (⊎_elim (λ z. omega arith) (λ z. omega arith) (rw e at c.in-Loaded.keys2))
+    go (Loaded sync end writes jumped) e = absurd (c.in_default.not-Loaded sync end writes jumped e)
     go (OutcomeIprog place) e = rw (sym c.chip_length_allowed.ensures ∙ c.if-not-chip_length_allowed.false, sym c.read_chip-outcome.ensures ∙ e) refl
     go (Stuck place) e = rw (sym c.chip_length_allowed.ensures ∙ c.if-not-chip_length_allowed.false, sym c.read_chip-outcome.ensures ∙ e) refl
 

@@ -1,7 +1,6 @@
 -- `boot::writes` meets its contract.
 use borrow.Author.Tests.{not-true, not-false}
 use mathlib.Core.Bool.{false}
-use mathlib.Core.Logic.{⊎_elim}
 use Rattle.base.proofs.Laws.{gives}
 use Rattle.writes.specs.Cursor.{listing_numbers}
 use Rattle.kind.specs.Spi.{spi}
@@ -23,7 +22,7 @@ unfolding chip_listing ask cursor_of
 returns-in_default c = gives listing_numbers _ _ (go c.read_chip-outcome.result refl)
   where
     go : (o : Outcome) → c.read_chip-outcome.result ≡ o → ListingOpen c.new.result ≡ chip_listing spi c.args.chip.now
-    go (Loaded sync end writes jumped) e = absurd (⊎_elim (λ z. omega arith) (λ z. omega arith) (rw e at c.in-Loaded.keys2))
+    go (Loaded sync end writes jumped) e = absurd (c.in_default.not-Loaded sync end writes jumped e)
     go (OutcomeIprog place) e = rw (sym c.chip_length_allowed.ensures ∙ c.if-not-chip_length_allowed.false, sym c.read_chip-outcome.ensures ∙ e) (ap ListingOpen c.new.ensures)
     go (Stuck place) e = rw (sym c.chip_length_allowed.ensures ∙ c.if-not-chip_length_allowed.false, sym c.read_chip-outcome.ensures ∙ e) (ap ListingOpen c.new.ensures)
 

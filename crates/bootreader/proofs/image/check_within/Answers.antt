@@ -1,7 +1,6 @@
 -- `image::check_within` meets its contract.
 use borrow.Author.Tests.{not-true, not-false}
 use mathlib.Core.Path.{◌≡◌, refl, sym, ap₂, ◌∙◌}
-use mathlib.Core.Logic.{⊎_elim}
 use native.Mathlib.Omega.{arith}
 use Rattle.base.proofs.Laws.{gives}
 use Rattle.kind.specs.Spi.{spi}
@@ -19,10 +18,10 @@ pub returns-in_default : goal.returns-in_default
 unfolding ask alone_case
 returns-in_default c = gives image_numbers _ _ (go c.read_alone-outcome.result refl)
   where
-    go : (o : Outcome) → c.read_alone-outcome.result ≡ o → ImageRefused c.number_of_lem.result c.place_of.result ≡ image_within spi c.args.longest c.args.image.now
-    go (Loaded sync end writes jumped) e = absurd (⊎_elim (λ z. omega arith) (λ z. omega arith) (rw e at c.in-Loaded.keys2))
-    go (OutcomeIprog place) e = rw (sym c.image_length_allowed.ensures ∙ c.if-not-image_length_allowed.false, sym c.read_alone-outcome.ensures ∙ e) (ap₂ ImageRefused (rw e at c.number_of_lem.ensures) (rw e at c.place_of.ensures))
-    go (Stuck place) e = rw (sym c.image_length_allowed.ensures ∙ c.if-not-image_length_allowed.false, sym c.read_alone-outcome.ensures ∙ e) (ap₂ ImageRefused (rw e at c.number_of_lem.ensures) (rw e at c.place_of.ensures))
+    go : (o : Outcome) → c.read_alone-outcome.result ≡ o → ImageRefused c.number_of.result c.place_of.result ≡ image_within spi c.args.longest c.args.image.now
+    go (Loaded sync end writes jumped) e = absurd (c.in_default.not-Loaded sync end writes jumped e)
+    go (OutcomeIprog place) e = rw (sym c.image_length_allowed.ensures ∙ c.if-not-image_length_allowed.false, sym c.read_alone-outcome.ensures ∙ e) (ap₂ ImageRefused (rw e at c.number_of.ensures) (rw e at c.place_of.ensures))
+    go (Stuck place) e = rw (sym c.image_length_allowed.ensures ∙ c.if-not-image_length_allowed.false, sym c.read_alone-outcome.ensures ∙ e) (ap₂ ImageRefused (rw e at c.number_of.ensures) (rw e at c.place_of.ensures))
 
 pub returns : goal.returns
 unfolding ask alone_case

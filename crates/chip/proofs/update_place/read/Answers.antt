@@ -27,7 +27,7 @@ allowed : (c : Else-not-chip_length_allowed) → chip_length_allowed (length c.a
 allowed c = sym c.chip_length_allowed.ensures ∙ c.if-not-chip_length_allowed.false
 
 long : (c : Else-not-chip_length_allowed) → 16384 ≤ length c.args.chip.now
-long c = (chip_length_range _ (allowed HELPER_c.Else-not-chip_length_allowed)).0
+long c = (chip_length_range _ (allowed c)).0
 
 pub word_at-update_place-requires : goal.word_at-update_place-requires
 word_at-update_place-requires c = let l = long (goal.at.word_at-update_place-requires c).Else-not-chip_length_allowed in omega arith
