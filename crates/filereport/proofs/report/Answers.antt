@@ -15,7 +15,6 @@ use Rattle.base.specs.Output.{front_filled}
 use Rattle.filereport.proofs.FileLaws.{reports_long, reports_image, reports_refused}
 use borrow.Author.Rules.{rules}
 use Rattle.filereport.proofs.report.Goals as goal
-use Rattle.filereport.proofs.report.Goals.{In-Read-2}
 
 pub returns-then-text-gt-LONGEST : goal.returns-then-text-gt-LONGEST
 returns-then-text-gt-LONGEST c =
@@ -25,30 +24,22 @@ returns-then-text-gt-LONGEST c =
     }
 
 -- Where the text holds an image: what reading it into the buffer says.
-module _ (c : In-Read-2) where
-  abbrev text : List ℕ
-  text = c.args.text.now
-
-  abbrev buffer : List ℕ
-  buffer = c.buffer-image.result
-
-  abbrev count : ℕ
-  count = c.in-Read.length
-
-  says : (image : List ℕ) × ((read_text text ≡ Holds image) × ((count ≤ length (read_output text buffer)) × (take count (read_output text buffer) ≡ image)))
-  says = read_says text buffer count (sym c.read-held.ensures.answer.same ∙ c.in-Read.is)
-
 pub slice_bounds-image-end : goal.slice_bounds-image-end
-slice_bounds-image-end c = rw c.read-held.ensures.output (says c).1.1.0
+slice_bounds-image-end c =
+    let says = read_says c.args.text.now c.buffer-image.result c.in-Read.length (sym c.read-held.ensures.answer.same ∙ c.in-Read.is) in
+    rw c.read-held.ensures.output says.1.1.0
 
 pub slice_bounds-built_report-end : goal.slice_bounds-built_report-end
-slice_bounds-built_report-end c = sym (length-take-le _ _ (rw c.read-held.ensures.output (says c).1.1.0))
+slice_bounds-built_report-end c =
+    let says = read_says c.args.text.now c.buffer-image.result c.in-Read.length (sym c.read-held.ensures.answer.same ∙ c.in-Read.is) in
+    sym (length-take-le _ _ (rw c.read-held.ensures.output says.1.1.0))
 
 pub returns-in-Read : goal.returns-in-Read
 returns-in-Read c =
     let out = c.args.out.now in
-    let image = ap (λ (l : List ℕ). take (count held) l) c.read-held.ensures.output ∙ (says held).1.1.1 in
-    let line = ap (λ (l : List ℕ). built_report l) image ∙ sym (reports_image (text held) (says held).0 (omega arith) (says held).1.0) in record {
+    let says = read_says c.args.text.now c.buffer-image.result c.in-Read.length (sym c.read-held.ensures.answer.same ∙ c.in-Read.is) in
+    let image = ap (λ (l : List ℕ). take c.in-Read.length l) c.read-held.ensures.output ∙ says.1.1.1 in
+    let line = ap (λ (l : List ℕ). built_report l) image ∙ sym (reports_image c.args.text.now says.0 (omega arith) says.1.0) in record {
       answer = gives report_numbers _ _ (c.built_report.ensures.answer ∙ ap (λ (l : List ℕ). written l (length out)) line);
       output = c.built_report.ensures.output ∙ ap (λ (l : List ℕ). front_filled l out) line;
     }
