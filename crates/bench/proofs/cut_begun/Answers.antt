@@ -34,7 +34,8 @@ stops c =
 asks : (c : After-damage_allowed) →
     c.damage_allowed.result ≡ cut_allowed (drop c.args.cut (orders spi c.args.begun.layout c.args.image.now)) (chip_after spi c.args.begun.layout c.args.image.now c.args.cut c.args.chip.now) c.args.damage.now
 asks c =
-    let s = stops HELPER_c.After-state_after-reached in
+    let a = c.args in
+    let s = cut_at a.begun a.image.now a.cut c.state_after-reached.result c.requires.0 c.requires.1 c.state_after-reached.ensures in
     c.damage_allowed.ensures ∙ ap₂ (λ (l : List Order) (h : List ℕ). cut_allowed l h c.args.damage.now) s.left (s.chip c.args.chip.now)
 
 pub damage_allowed-requires : goal.damage_allowed-requires
@@ -45,9 +46,9 @@ damage_allowed-requires c =
 pub returns-then-not-damage_allowed : goal.returns-then-not-damage_allowed
 unfolding ask bench_output
 returns-then-not-damage_allowed c = record {
-      answer = rw (sym (asks (goal.at.returns-then-not-damage_allowed c).After-damage_allowed) ∙ c.if-not-damage_allowed.true) refl;
-      output = refl;
-    }
+  answer = rw (sym (asks (goal.at.returns-then-not-damage_allowed c).After-damage_allowed) ∙ c.if-not-damage_allowed.true) refl;
+  output = refl;
+}
 
 pub write_damage-requires : goal.write_damage-requires
 write_damage-requires c =

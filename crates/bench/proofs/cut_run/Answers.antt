@@ -76,5 +76,5 @@ returns-in-Refused c =
     let r = by-begun c.layout-layout.result chip image a.cut damage _ e ∙ ap (λ (x : Layout). bench_answer spi x chip image a.cut damage) l in
     record {
       answer = gives bench_numbers _ _ r;
-      output = ap (λ (y : BenchAnswer). bench_output y spi (layout_of (length chip) a.update-place a.update-length) chip image a.cut damage) r;
+      output = ap (λ (y : BenchAnswer). bench_output y spi (layout_of (length chip) a.update_place a.update_length) chip image a.cut damage) r;
     }

@@ -18,7 +18,7 @@ use Rattle.updater.proofs.Laws.{orders_ended, fits_says, fits_own}
 use Rattle.effects.proofs.Laws.{erase_span, current_within}
 use Rattle.bench.proofs.BenchLaws.{asks_of, LowIsOn, current_low, current_asked}
 use Rattle.bench.proofs.damage_allowed.Goals as goal
-use Rattle.bench.proofs.damage_allowed.Goals.{After-current_operation-operation, In-Erase-2}
+use Rattle.bench.proofs.damage_allowed.Goals.{After-current_operation-operation}
 
 pub returns-then-state-ge7 : goal.returns-then-state-ge7
 unfolding cut_allowed
@@ -41,15 +41,19 @@ erase-within state image place count f r e =
     let s = erase_span (current_order spi state image) place count e in
     omega arith
 
-the-erase : (c : In-Erase-2) → c.in-Erase.place + c.in-Erase.length ≤ c.args.state.layout.chip_length
-the-erase c =
-    erase-within c.args.state c.args.image.now _ _ c.requires.0 (lt-ltb c.args.state.phase 7 (omega arith)) (sym (the-order HELPER_c.After-current_operation-operation) ∙ c.in-Erase.is)
-
 pub overflow_add-place : goal.overflow_add-place
-overflow_add-place c = let w = the-erase (goal.at.overflow_add-place c).In-Erase-2 in omega arith
+overflow_add-place c =
+    let a = c.args in
+    let o = the-order (goal.at.overflow_add-place c).After-current_operation-operation in
+    let w = erase-within a.state a.image.now _ _ c.requires.0 (lt-ltb a.state.phase 7 (omega arith)) (sym o ∙ c.in-Erase.is) in
+    omega arith
 
 pub slice_bounds-span_allowed-end : goal.slice_bounds-span_allowed-end
-slice_bounds-span_allowed-end c = let w = the-erase (goal.at.slice_bounds-span_allowed-end c).In-Erase-2 in omega arith
+slice_bounds-span_allowed-end c =
+    let a = c.args in
+    let o = the-order (goal.at.slice_bounds-span_allowed-end c).After-current_operation-operation in
+    let w = erase-within a.state a.image.now _ _ c.requires.0 (lt-ltb a.state.phase 7 (omega arith)) (sym o ∙ c.in-Erase.is) in
+    omega arith
 
 pub span_allowed-requires-in-Program : goal.span_allowed-requires-in-Program
 unfolding LowIsOn

@@ -12,10 +12,8 @@ use Rattle.flash.specs.Flash.{erased}
 use Rattle.flash.proofs.Laws.{erased_length, erased_at}
 use Rattle.bench.specs.Bench.{mixture}
 use Rattle.bench.proofs.MixtureLaws.{mixes, mixture_from}
+use Rattle.bench.proofs.mixes_with_erased.Invariants.{left}
 use Rattle.bench.proofs.mixes_with_erased.Goals as goal
-
-abbrev left : List ℕ → List ℕ → ℕ → Bool
-left others new i = mixture (drop i others) (drop i (erased (length others))) (drop i new)
 
 -- one byte more
 next : (others new : List ℕ) (i : ℕ) → length others ≡ length new → i < length others → left others new i ≡ (mixes (get_or others i 0) 0xFF (get_or new i 0) && left others new (suc i))

@@ -14,6 +14,10 @@ use Rattle.bench.specs.Bench.{mixture}
 use Rattle.bench.proofs.MixtureLaws.{mixes, mixture_from}
 use Rattle.bench.proofs.mixes_with_erased.Given as goal
 
+-- what is left to look at from a place on
+abbrev pub left : List ℕ → List ℕ → ℕ → Bool
+left others new i = mixture (drop i others) (drop i (erased (length others))) (drop i new)
+
 abbrev pub invariant-loop-i : goal.invariant-loop-i
 invariant-loop-i l = (l.i ≤ length l.others) × (left l.others l.new l.i ≡ left l.others l.new 0)
 

@@ -35,7 +35,7 @@ the-order c = let a = c.args in c.current_operation-operation.ensures a.image.no
 
 -- It is an erase or a program of the span.
 either : (c : In-Erase) → (c.current_operation-operation.result ≡ Erase c.in-Erase.place c.in-Erase.length) ⊎ (c.current_operation-operation.result ≡ Program c.in-Erase.place c.in-Erase.length)
-either c = ⊎_elim (λ w. inl (w.1.given.1 ∙ sym (ap₂ Erase w.3 w.4))) (λ w. inr (w.1.given.1 ∙ sym (ap₂ Program w.3 w.4))) c.in-Erase.match-operation-branch
+either c = c.in-Erase.is
 
 -- There are damage bytes for it,
 enough : (c : In-Erase) → c.in-Erase.length ≤ length c.args.damage.now
@@ -44,10 +44,11 @@ enough c =
     let a = c.args in
     let p = c.requires in
     let runs = lt-ltb a.state.phase 7 c.if-state-ge7.false in
+    let is = c.current_operation-operation.ensures a.image.now (fits_says a.state (length a.image.now) c.requires.0).same in
     ⊎_elim
-    (λ e. current_enough a.state a.image.now p.0 runs a.chip.now a.damage.now p.1 p.2 (Erase c.in-Erase.place c.in-Erase.length) (sym (the-order HELPER_c.After-current_operation-operation) ∙ e))
-    (λ e. current_enough a.state a.image.now p.0 runs a.chip.now a.damage.now p.1 p.2 (Program c.in-Erase.place c.in-Erase.length) (sym (the-order HELPER_c.After-current_operation-operation) ∙ e))
-    (either HELPER_c.In-Erase)
+    (λ e. current_enough a.state a.image.now p.0 runs a.chip.now a.damage.now p.1 p.2 (Erase c.in-Erase.place c.in-Erase.length) (sym is ∙ e))
+    (λ e. current_enough a.state a.image.now p.0 runs a.chip.now a.damage.now p.1 p.2 (Program c.in-Erase.place c.in-Erase.length) (sym is ∙ e))
+    c.in-Erase.is
 
 -- and with them over the span the chip is as the cut leaves it.
 left : (c : In-Erase) →
@@ -58,10 +59,11 @@ left c =
     let a = c.args in
     let p = c.requires in
     let runs = lt-ltb a.state.phase 7 c.if-state-ge7.false in
+    let is = c.current_operation-operation.ensures a.image.now (fits_says a.state (length a.image.now) c.requires.0).same in
     ⊎_elim
-    (λ e. current_left a.state a.image.now p.0 runs a.chip.now a.damage.now p.1 (Erase c.in-Erase.place c.in-Erase.length) (sym (the-order HELPER_c.After-current_operation-operation) ∙ e))
-    (λ e. current_left a.state a.image.now p.0 runs a.chip.now a.damage.now p.1 (Program c.in-Erase.place c.in-Erase.length) (sym (the-order HELPER_c.After-current_operation-operation) ∙ e))
-    (either HELPER_c.In-Erase)
+    (λ e. current_left a.state a.image.now p.0 runs a.chip.now a.damage.now p.1 (Erase c.in-Erase.place c.in-Erase.length) (sym is ∙ e))
+    (λ e. current_left a.state a.image.now p.0 runs a.chip.now a.damage.now p.1 (Program c.in-Erase.place c.in-Erase.length) (sym is ∙ e))
+    c.in-Erase.is
 
 pub slice_bounds-overwrite-end : goal.slice_bounds-overwrite-end
 slice_bounds-overwrite-end c =

@@ -1,5 +1,6 @@
 -- `bytes_at` meets its contract.
-use mathlib.Core.Path.{sym, ap, ◌∙◌}
+use mathlib.Core.Logic.{◌⊎◌}
+use mathlib.Core.Path.{◌≡◌, sym, ap, ◌∙◌}
 use native.Mathlib.Omega.{arith}
 use lib.ListN.{length}
 use Rattle.kind.specs.Layout.{page}
@@ -20,4 +21,6 @@ returns-in-3 c =
     λ layout. c.padded_page.ensures ∙ ap (padded page) (c.carried_bytes.ensures ∙ sym (programs layout _ _ _ c.in-3.is))
 
 pub returns-in_default : goal.returns-in_default
-returns-in_default c = λ layout. ap (padded page) (sym (programs_none layout _ _ _ c.in_default.in_default-own.rest.1))
+returns-in_default c =
+    let neither : (c.args.phase ≡ 3) ⊎ (c.args.phase ≡ 5) → ⊥ = search rules in
+    λ layout. ap (padded page) (sym (programs_none layout _ _ _ neither))
