@@ -1,29 +1,26 @@
-// What is printed of the answer to a case: words, numbers and bytes, each with a space before it. For the crates
-// above it alone, which are the parts of a test program: of its functions no more is proved than that they are
-// safe and end.
+// What is printed of the answer to a case: words, numbers and bytes, each with a space before it. Each function
+// writes to the writer that it is given, and fails where that fails. For the crates above it alone, which are the
+// parts of a test program: of its functions no more is proved than that they are safe and end.
 #![tactic(auto)]
 
 use caselines::words::{NOTHING, REFUSED, STATE};
 use digits::digit::characters;
+use std::io;
+use std::io::Write;
 
 // A word, its letters from the highest byte down.
-pub fn word(word: u64) {
-    io::write_all(1, b" ");
-    let mut rest = word;
-    let mut i: usize = 0;
-    while i < 8 {
-        let letter = rest / 0x0100_0000_0000_0000;
+pub fn word(out: &mut impl Write, word: u64) -> io::Result<()> {
+    out.write_all(b" ")?;
+    for letter in word.to_be_bytes() {
         if letter != 0 {
-            io::write_all(1, &[(letter % 256) as u8]);
+            out.write_all(&[letter])?;
         }
-        rest = rest % 0x0100_0000_0000_0000 * 256;
-        i += 1;
     }
+    Ok(())
 }
 
-pub fn number(value: usize) {
-    io::write_all(1, b" ");
-    io::print_decimal(1, value as u64);
+pub fn number(out: &mut impl Write, value: usize) -> io::Result<()> {
+    write!(out, " {value}")
 }
 
 // One of two words, by a flag of the C host.
@@ -31,79 +28,82 @@ pub fn either(flag: u32, no: u64, yes: u64) -> u64 {
     if flag == 0 { no } else { yes }
 }
 
-pub fn refused(number: u32, place: usize) {
-    result(REFUSED, REFUSED, number, place);
+pub fn refused(out: &mut impl Write, number: u32, place: usize) -> io::Result<()> {
+    result(out, REFUSED, REFUSED, number, place)
 }
 
 // How a call ended: a word, and where it ended badly the number and the place.
-pub fn result(good: u64, bad: u64, number: u32, place: usize) {
+pub fn result(
+    out: &mut impl Write,
+    good: u64,
+    bad: u64,
+    number: u32,
+    place: usize,
+) -> io::Result<()> {
     if number == 0 {
-        return word(good);
+        return word(out, good);
     }
-    word(bad);
-    self::number(number as usize);
-    self::number(place);
+    word(out, bad)?;
+    self::number(out, number as usize)?;
+    self::number(out, place)
 }
 
 // A byte in hexadecimal.
-fn byte(b: u8) {
+fn byte(out: &mut impl Write, b: u8) -> io::Result<()> {
     let characters = characters();
     let high = (b / 16) as usize;
     let low = (b % 16) as usize;
-    io::write_all(1, &[characters[high], characters[low]]);
+    out.write_all(&[characters[high], characters[low]])
 }
 
 // A word of a packet in hexadecimal.
-pub fn packet_word(w: u32) {
-    io::write_all(1, b" ");
-    byte((w / 16_777_216) as u8);
-    byte((w / 65_536 % 256) as u8);
-    byte((w / 256 % 256) as u8);
-    byte((w % 256) as u8);
+pub fn packet_word(out: &mut impl Write, w: u32) -> io::Result<()> {
+    out.write_all(b" ")?;
+    for b in w.to_be_bytes() {
+        byte(out, b)?;
+    }
+    Ok(())
 }
 
 // A byte that stands `count` times.
-fn run(b: u8, count: usize) {
+fn run(out: &mut impl Write, b: u8, count: usize) -> io::Result<()> {
     if count == 0 {
-        return;
+        return Ok(());
     }
-    io::write_all(1, b" ");
-    byte(b);
+    out.write_all(b" ")?;
+    byte(out, b)?;
     if count == 1 {
-        return;
+        return Ok(());
     }
-    io::write_all(1, b"*");
-    io::print_decimal(1, count as u64);
+    write!(out, "*{count}")
 }
 
 // Every byte of a buffer, those that stand more than once in a row with their number.
-pub fn bytes(buffer: &[u8]) {
-    if buffer.len() == 0 {
-        word(NOTHING);
+pub fn bytes(out: &mut impl Write, buffer: &[u8]) -> io::Result<()> {
+    if buffer.is_empty() {
+        word(out, NOTHING)?;
     }
     let mut last = 0;
     let mut count = 0;
-    let mut i = 0;
-    while i < buffer.len() {
-        let b = buffer[i];
-        if b != last {
-            run(last, count);
+    for b in buffer {
+        if *b != last {
+            run(out, last, count)?;
             count = 0;
         }
-        last = b;
+        last = *b;
         count += 1;
-        i += 1;
     }
-    run(last, count);
+    run(out, last, count)
 }
 
 // The bytes of an order.
-pub fn page(page: [u8; 256]) {
-    bytes(&page);
+pub fn page(out: &mut impl Write, page: [u8; 256]) -> io::Result<()> {
+    bytes(out, &page)
 }
 
 // The state of a run: F, U, A, n, phase, index, outcome.
 pub fn state(
+    out: &mut impl Write,
     length: usize,
     update: usize,
     area: usize,
@@ -111,13 +111,13 @@ pub fn state(
     phase: u32,
     index: usize,
     outcome: u32,
-) {
-    word(STATE);
-    number(length);
-    number(update);
-    number(area);
-    number(image);
-    number(phase as usize);
-    number(index);
-    number(outcome as usize);
+) -> io::Result<()> {
+    word(out, STATE)?;
+    number(out, length)?;
+    number(out, update)?;
+    number(out, area)?;
+    number(out, image)?;
+    number(out, phase as usize)?;
+    number(out, index)?;
+    number(out, outcome as usize)
 }

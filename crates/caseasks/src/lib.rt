@@ -5,13 +5,12 @@
 ghost use Rattle.std.specs.Prelude.{◌≤◌, length};
 
 use base::min;
-use bytes::scan::find;
 use caselines::parse::{Fields, NONE, Numbers, Word, put_fields, read_numbers, read_word};
 use caselines::words;
 
 // The word of a call, its numbers, and where the last of its fields begins and ends, and the one before it begins.
 // The word is COMMENT for a line that asks nothing, and WRONG for one that has not what its word wants.
-#[derive(Drop)]
+#[derive(Clone, Copy)]
 pub struct Case {
     pub key: u64,
     pub n: Numbers,
@@ -80,7 +79,7 @@ fn asked(word: Word, n: Numbers, fields: Fields) -> u64 {
 // What a line asks. The bytes of its fields, which stand from a slash on, are put to the front of a buffer.
 pub fn read_case(line: &[u8], given: &mut [u8]) -> Case {
     let word = read_word(line, 0);
-    let slash = find(line, 0, line.len(), b'/');
+    let slash = line.iter().position(|b| *b == b'/').unwrap_or(line.len());
     let n = read_numbers(&line[0..slash], word.next);
     let fields = put_fields(line, slash, given);
     Case {

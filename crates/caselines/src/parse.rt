@@ -8,14 +8,14 @@ use std::num::wrapping_add_usize;
 pub const NONE: usize = 18_446_744_073_709_551_615;
 
 // A word's letters as one number, and the place after the word and the space behind it.
-#[derive(Drop)]
+#[derive(Clone, Copy)]
 pub struct Word {
     pub key: u64,
     pub next: usize,
 }
 
 // A decimal number, and the place after it and the space behind it.
-#[derive(Drop)]
+#[derive(Clone, Copy)]
 struct Number {
     value: usize,
     next: usize,
@@ -23,7 +23,7 @@ struct Number {
 
 // How many numbers a line has, and the last eight of them, h the very last; those that it has not are 0.
 // A count of NONE says that something is no number.
-#[derive(Drop)]
+#[derive(Clone, Copy)]
 pub struct Numbers {
     pub count: usize,
     pub a: usize,
@@ -37,7 +37,7 @@ pub struct Numbers {
 }
 
 // A byte, how often it stands, and the place after it.
-#[derive(Drop)]
+#[derive(Clone, Copy)]
 struct Item {
     byte: u8,
     count: usize,
@@ -46,7 +46,7 @@ struct Item {
 
 // How many fields a line has; where the last of them begins and ends, and where the one before it begins;
 // and whether a quote is open.
-#[derive(Drop)]
+#[derive(Clone, Copy)]
 pub struct Fields {
     pub count: usize,
     pub second: usize,

@@ -1,6 +1,7 @@
 // The cases of layouts and runs, most of them called as the C host calls them, in plain numbers: each call's
-// answer is printed. F, U and A are the numbers f, g and h of a line, a state's seven b to h. For the program
-// above it alone: no more is proved here than that each call is safe and ends.
+// answer is printed to the writer that is given, and fails where that fails. F, U and A are the numbers f, g and h of
+// a line, a state's seven b to h. For the program above it alone: no more is proved here than that each call is safe
+// and ends.
 #![tactic(auto)]
 
 use caseanswers as say;
@@ -11,19 +12,22 @@ use host::run::{tealsettle_finished, tealsettle_order, tealsettle_reply, tealset
 use hostcounts::{tealsettle_progress, tealsettle_total};
 use kind::layout::LayoutAnswer;
 use kind::spi::Spi;
+use std::io;
+use std::io::Write;
 
-fn layout(n: Numbers) {
+fn layout(out: &mut impl Write, n: Numbers) -> io::Result<()> {
     let answer = Spi::layout(n.f, n.g, n.h).check();
     match answer {
-        LayoutAnswer::Allowed => say::word(words::ALLOWED),
-        LayoutAnswer::Refused { number, place } => say::refused(number, place),
+        LayoutAnswer::Allowed => say::word(out, words::ALLOWED),
+        LayoutAnswer::Refused { number, place } => say::refused(out, number, place),
     }
 }
 
-fn start(n: Numbers, image: &[u8]) {
+fn start(out: &mut impl Write, n: Numbers, image: &[u8]) -> io::Result<()> {
     let answer = tealsettle_start(SPI, n.f, n.g, n.h, image);
-    say::result(words::STARTED, words::REFUSED, answer.number, answer.place);
+    say::result(out, words::STARTED, words::REFUSED, answer.number, answer.place)?;
     say::state(
+        out,
         answer.state.length,
         answer.state.update,
         answer.state.area,
@@ -31,13 +35,13 @@ fn start(n: Numbers, image: &[u8]) {
         answer.state.phase,
         answer.state.index,
         answer.state.outcome,
-    );
+    )
 }
 
-fn total(n: Numbers) {
+fn total(out: &mut impl Write, n: Numbers) -> io::Result<()> {
     let answer = tealsettle_total(SPI, n.e, n.f, n.g, n.h);
-    say::result(words::TOTAL, words::REFUSED, answer.number, answer.place);
-    say::number(answer.orders);
+    say::result(out, words::TOTAL, words::REFUSED, answer.number, answer.place)?;
+    say::number(out, answer.orders)
 }
 
 // A number of 32 bits, which phase, outcome and the kind of reply are.
@@ -54,7 +58,7 @@ fn operation(number: u32) -> u64 {
     }
 }
 
-fn order(n: Numbers, image: &[u8]) {
+fn order(out: &mut impl Write, n: Numbers, image: &[u8]) -> io::Result<()> {
     let answer = tealsettle_order(
         SPI,
         n.b,
@@ -67,14 +71,14 @@ fn order(n: Numbers, image: &[u8]) {
         image,
     );
     let name = operation(answer.operation);
-    say::result(name, words::REFUSED, answer.number, answer.place);
-    say::number(answer.address);
-    say::number(answer.length);
+    say::result(out, name, words::REFUSED, answer.number, answer.place)?;
+    say::number(out, answer.address)?;
+    say::number(out, answer.length)?;
     let bytes = answer.bytes;
-    say::page(bytes);
+    say::page(out, bytes)
 }
 
-fn reply(n: Numbers, image: &[u8], bytes: &[u8]) {
+fn reply(out: &mut impl Write, n: Numbers, image: &[u8], bytes: &[u8]) -> io::Result<()> {
     let answer = tealsettle_reply(
         SPI,
         n.b,
@@ -89,8 +93,9 @@ fn reply(n: Numbers, image: &[u8], bytes: &[u8]) {
         bytes,
     );
     let not = say::either(answer.stopped, words::REFUSED, words::STOPPED);
-    say::result(words::NEXT, not, answer.number, answer.place);
+    say::result(out, words::NEXT, not, answer.number, answer.place)?;
     say::state(
+        out,
         answer.state.length,
         answer.state.update,
         answer.state.area,
@@ -98,34 +103,34 @@ fn reply(n: Numbers, image: &[u8], bytes: &[u8]) {
         answer.state.phase,
         answer.state.index,
         answer.state.outcome,
-    );
+    )
 }
 
-fn ended(n: Numbers) {
+fn ended(out: &mut impl Write, n: Numbers) -> io::Result<()> {
     let answer = tealsettle_finished(SPI, n.b, n.c, n.d, n.e, narrow(n.f), n.g, narrow(n.h));
     let how = say::either(answer.ended, words::RUNNING, words::ENDED);
-    say::result(how, words::REFUSED, answer.number, answer.place);
-    say::number(answer.outcome as usize);
+    say::result(out, how, words::REFUSED, answer.number, answer.place)?;
+    say::number(out, answer.outcome as usize)
 }
 
-fn progress(n: Numbers) {
+fn progress(out: &mut impl Write, n: Numbers) -> io::Result<()> {
     let answer = tealsettle_progress(SPI, n.b, n.c, n.d, n.e, narrow(n.f), n.g, narrow(n.h));
-    say::result(words::AT, words::REFUSED, answer.number, answer.place);
-    say::number(answer.order);
-    say::number(answer.orders);
+    say::result(out, words::AT, words::REFUSED, answer.number, answer.place)?;
+    say::number(out, answer.order)?;
+    say::number(out, answer.orders)
 }
 
 // A call that changes no byte.
-pub fn call(case: Case, given: &[u8]) {
+pub fn call(out: &mut impl Write, case: Case, given: &[u8]) -> io::Result<()> {
     let key = case.key;
     let last = field(given, case.third, case.end);
     match key {
-        words::LAYOUT => layout(case.n),
-        words::TOTAL => total(case.n),
-        words::ENDED => ended(case.n),
-        words::PROGRESS => progress(case.n),
-        words::START => start(case.n, last),
-        words::ORDER => order(case.n, last),
-        _ => reply(case.n, field(given, case.second, case.third), last),
+        words::LAYOUT => layout(out, case.n),
+        words::TOTAL => total(out, case.n),
+        words::ENDED => ended(out, case.n),
+        words::PROGRESS => progress(out, case.n),
+        words::START => start(out, case.n, last),
+        words::ORDER => order(out, case.n, last),
+        _ => reply(out, case.n, field(given, case.second, case.third), last),
     }
 }

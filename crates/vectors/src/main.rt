@@ -31,65 +31,98 @@
 // number or no byte, or with a number or bytes that there is no room for.
 #![tactic(auto)]
 
-use bytes::scan::find;
+ghost use Rattle.std.specs.Prelude.{◌≤◌, length, IfOk};
+
 use caseanswers as say;
 use caseasks::{Case, read_case};
 use caselines::{room, words};
+use std::io;
+use std::io::{BufWriter, ErrorKind, Read, Write};
 
 // The call of a case, with the bytes of its fields.
-fn call(case: Case, given: &[u8]) {
+fn call(out: &mut impl Write, case: Case, given: &[u8]) -> io::Result<()> {
     let key = case.key;
     match key {
-        words::BUILD | words::READ | words::CUT => lentcases::call(case, given),
+        words::BUILD | words::READ | words::CUT => lentcases::call(out, case, given),
         words::LAYOUT
         | words::TOTAL
         | words::ENDED
         | words::PROGRESS
         | words::START
         | words::ORDER
-        | words::REPLY => runcases::call(case, given),
+        | words::REPLY => runcases::call(out, case, given),
         words::BOOT | words::SWITCH | words::WRITE | words::LIST => chipcases::call_chip(
-            case, given,
+            out, case, given,
         ),
         words::CHECK | words::ITEM | words::ITEMS | words::PACKETS => chipcases::call_image(
-            case, given,
+            out, case, given,
         ),
-        _ => say::word(words::WRONG),
+        _ => say::word(out, words::WRONG),
     }
 }
 
 // Prints the answer to a line, where it asks something.
-fn run_line(line: &[u8]) {
+fn run_line(out: &mut impl Write, line: &[u8]) -> io::Result<()> {
     let mut given = room();
     let case = read_case(line, &mut given);
     if case.key == words::COMMENT {
-        return;
+        return Ok(());
     }
-    say::word(words::EQUALS);
-    call(case, &given);
+    say::word(out, words::EQUALS)?;
+    call(out, case, &given)
 }
 
-fn run_lines(input: &[u8]) {
+// Prints a line as it is, and its answer behind it.
+fn print_line(out: &mut impl Write, line: &[u8]) -> io::Result<()> {
+    out.write_all(line)?;
+    run_line(out, line)?;
+    out.write_all(b"\n")
+}
+
+fn run_lines(out: &mut impl Write, input: &[u8]) -> io::Result<()> {
     let mut at = 0;
     while at < input.len() {
-        let end = find(input, at, input.len(), b'\n');
-        let line = &input[at..end];
-        io::write_all(1, line);
-        run_line(line);
-        io::write_all(1, b"\n");
-        if end == input.len() {
-            return;
+        let rest = &input[at..];
+        let length = rest.iter().position(|b| *b == b'\n').unwrap_or(rest.len());
+        print_line(out, &rest[..length])?;
+        if length == rest.len() {
+            break;
         }
-        at = end + 1;
+        at += length + 1;
     }
+    Ok(())
 }
 
-fn main() {
+// Reads into a buffer until it is full or the reader is at its end: how many bytes.
+fn read_full(from: &mut impl Read, buffer: &mut [u8]) -> io::Result<usize>
+    ensures { IfOk result (λ size. size ≤ length buffer.new) }
+{
+    let mut size = 0;
+    for _ in 0..u64::MAX {
+        if size == buffer.len() {
+            break;
+        }
+        match from.read(&mut buffer[size..]) {
+            Ok(0) => break,
+            Ok(more) => size += more,
+            Err(error) => {
+                if error.kind() != ErrorKind::Interrupted {
+                    return Err(error);
+                }
+            }
+        }
+    }
+    Ok(size)
+}
+
+fn main(rt: HostRuntime) -> io::Result<()> {
     let mut input = room();
-    let length = io::read_full(0, &mut input);
-    run_lines(&input[..length]);
+    let length = read_full(&mut rt.stdin(), &mut input)?;
+    let mut out = BufWriter::new(rt.alloc(), rt.stdout())?;
+    run_lines(&mut out, &input[..length])?;
     // there may be lines that were not read
     if length == input.len() {
-        say::word(words::WRONG);
+        say::word(&mut out, words::WRONG)?;
     }
+    out.flush()
 }

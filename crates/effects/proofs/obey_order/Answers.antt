@@ -38,7 +38,9 @@ page-of state image bytes place count f r e b =
 
 the_page : (c : After-current_bytes-bytes) → (c.in-Program.length ≤ 256) × (length c.current_bytes-bytes.result ≡ 256)
 the_page c =
-    page-of c.args.state c.args.image.now _ _ _ c.requires.0 c.requires.1 (sym (the-order HELPER_c.After-current_operation-operation) ∙ c.in-Program.is) c.current_bytes-bytes.ensures
+    let a = c.args in
+    let is = c.current_operation-operation.ensures a.image.now (fits_says a.state (length a.image.now) c.requires.0).same in
+    page-of a.state a.image.now _ _ _ c.requires.0 c.requires.1 (sym is ∙ c.in-Program.is) c.current_bytes-bytes.ensures
 
 pub slice_bounds-bytes-end : goal.slice_bounds-bytes-end
 slice_bounds-bytes-end c = let m = the_page (goal.at.slice_bounds-bytes-end c).After-current_bytes-bytes in omega arith

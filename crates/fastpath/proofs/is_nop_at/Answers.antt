@@ -4,7 +4,6 @@ use native.Mathlib.Omega.{arith}
 use borrow.Author.Tests.{eqb-true}
 use Rattle.base.proofs.Laws.{false_true}
 use Rattle.fastpath.specs.Fastpath.{NOP}
-use borrow.Author.Rules.{rules}
 use Rattle.fastpath.proofs.is_nop_at.Goals as goal
 
 pub returns-then-s-at-lt4 : goal.returns-then-s-at-lt4

@@ -7,7 +7,6 @@ use Rattle.scanner.specs.Scan.{scanner_after_packet}
 use Rattle.fastpath.specs.Fastpath.{SkipKeeps}
 use Rattle.fastpath.specs.Types.{Scanner}
 use Rattle.fastpath.proofs.SkipLaws.{past_counted}
-use borrow.Author.Rules.{rules}
 use Rattle.fastpath.proofs.skip_counted.Goals as goal
 
 pub after_packet-requires : goal.after_packet-requires

@@ -2,13 +2,11 @@
 use Prim.Native.Nat.{◌+◌}
 use mathlib.Core.Path.{sym, ap, subst, ◌∙◌}
 use native.Mathlib.Omega.{arith}
-use borrow.Author.Tests.{not-false}
 use Rattle.scanner.specs.Scan.{scanner_after_packet}
 use Rattle.fastpath.specs.Fastpath.{SkipKeeps}
 use Rattle.fastpath.specs.Types.{Scanner}
 use Rattle.framing.proofs.Laws.{room}
 use Rattle.fastpath.proofs.SkipLaws.{past_none, past_whole}
-use borrow.Author.Rules.{rules}
 use Rattle.fastpath.proofs.skip_data.Goals as goal
 
 pub returns-then-not-may_skip : goal.returns-then-not-may_skip

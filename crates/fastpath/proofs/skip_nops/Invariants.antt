@@ -1,10 +1,7 @@
 -- `skip_nops` meets its contract. The invariant: what was passed since the first, and that it lies within the bytes.
 use Prim.Native.Nat.{◌-◌, ◌≤◌}
-use native.Mathlib.Omega.{arith}
 use lib.ListN.{length}
 use Rattle.fastpath.specs.Fastpath.{SkipKeeps}
-use Rattle.fastpath.proofs.SkipLaws.{past_none, past_on, past_nop}
-use borrow.Author.Rules.{rules}
 use Rattle.fastpath.proofs.skip_nops.Given as goal
 
 abbrev pub invariant-loop-w : goal.invariant-loop-w

@@ -2,12 +2,10 @@
 use Prim.Native.Nat.{◌+◌}
 use mathlib.Core.Path.{sym, ap, ◌∙◌}
 use native.Mathlib.Omega.{arith}
-use borrow.Author.Tests.{not-false}
 use Rattle.framing.proofs.Laws.{room}
 use Rattle.packets.specs.Header.{register_ok}
 use Rattle.packets.proofs.HeaderLaws.{command_ok}
 use Rattle.fastpath.proofs.SkipLaws.{begins_type1, plain_begins}
-use borrow.Author.Rules.{rules}
 use Rattle.fastpath.proofs.skip_one.Goals as goal
 
 pub skip_data-requires : goal.skip_data-requires

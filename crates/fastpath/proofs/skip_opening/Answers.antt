@@ -2,12 +2,10 @@
 use Prim.Native.Nat.{ℕ, ◌+◌, ◌%◌}
 use mathlib.Core.Path.{◌≡◌, refl, sym, ap, ◌∙◌}
 use native.Mathlib.Omega.{arith}
-use borrow.Author.Tests.{not-false}
 use Rattle.packets.specs.Header.{head_of}
 use Rattle.fastpath.specs.Fastpath.{PacketBegins, SkipKeeps}
 use Rattle.fastpath.specs.Types.{Type2, Scanner}
 use Rattle.fastpath.proofs.SkipLaws.{past_on, past_empty, begins_type2}
-use borrow.Author.Rules.{rules}
 use Rattle.fastpath.proofs.skip_opening.Goals as goal
 use Rattle.fastpath.proofs.skip_opening.Goals.{After-after_header-opened, After-min-room}
 

@@ -3,13 +3,11 @@ use Prim.Native.Nat.{ℕ, ◌/◌, ◌%◌, ◌≤◌}
 use mathlib.Core.Path.{◌≡◌, refl, sym, ap, ◌∙◌}
 use mathlib.Core.Bool.{true}
 use native.Mathlib.Omega.{arith}
-use borrow.Author.Tests.{not-false}
 use Rattle.framing.specs.Words.{word_at}
 use Rattle.packets.specs.Header.{register_ok, head_of}
 use Rattle.fastpath.specs.Fastpath.{PacketBegins}
 use Rattle.fastpath.specs.Types.{Type1}
 use Rattle.fastpath.proofs.SkipLaws.{past_none, begins_type1}
-use borrow.Author.Rules.{rules}
 use Rattle.fastpath.proofs.skip_packet.Goals as goal
 use Rattle.fastpath.proofs.skip_packet.Goals.{Else-not-is_type1_form, Else-not-register_ok}
 

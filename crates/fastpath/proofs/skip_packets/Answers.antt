@@ -1,13 +1,10 @@
 -- `skip_packets` meets its contract. The invariant: what was passed so far, and that `word` is the word here, with another after it.
-use Prim.Native.Nat.{◌+◌, ◌-◌, ◌≤◌}
-use mathlib.Core.Path.{◌≡◌}
+use Prim.Native.Nat.{◌≤◌}
 use native.Mathlib.Omega.{arith}
 use lib.ListN.{length}
-use Rattle.framing.specs.Words.{word_at}
 use Rattle.fastpath.specs.Fastpath.{SkipKeeps}
 use Rattle.framing.proofs.Laws.{room}
 use Rattle.fastpath.proofs.SkipLaws.{past_none, past_on}
-use borrow.Author.Rules.{rules}
 use Rattle.fastpath.proofs.skip_packets.Goals as goal
 use Rattle.fastpath.proofs.skip_packets.Goals.{After-skip_packet-w}
 

@@ -1,13 +1,9 @@
 -- `skip_packets` meets its contract. The invariant: what was passed so far, and that `word` is the word here, with another after it.
 use Prim.Native.Nat.{◌+◌, ◌-◌, ◌≤◌}
 use mathlib.Core.Path.{◌≡◌}
-use native.Mathlib.Omega.{arith}
 use lib.ListN.{length}
 use Rattle.framing.specs.Words.{word_at}
 use Rattle.fastpath.specs.Fastpath.{SkipKeeps}
-use Rattle.framing.proofs.Laws.{room}
-use Rattle.fastpath.proofs.SkipLaws.{past_none, past_on}
-use borrow.Author.Rules.{rules}
 use Rattle.fastpath.proofs.skip_packets.Given as goal
 
 abbrev pub invariant-loop-w : goal.invariant-loop-w

@@ -1,7 +1,6 @@
 -- `skip_words` meets its contract.
 use mathlib.Core.Path.{sym, ◌∙◌}
 use Rattle.fastpath.proofs.SkipLaws.{plain_begins}
-use borrow.Author.Rules.{rules}
 use Rattle.fastpath.proofs.skip_words.Goals as goal
 
 pub skip_counted-requires : goal.skip_counted-requires

@@ -2,12 +2,12 @@
 use Prim.Native.Nat.{◌+◌, ◌-◌, ◌≤◌}
 use mathlib.Core.Path.{◌≡◌, refl, sym, ap, ◌∙◌}
 use mathlib.Core.Bool.{◌&&◌}
-use mathlib.Core.Logic.{⊎_elim}
 use native.Mathlib.Omega.{arith}
 use lib.ListN.{length, drop}
 use Rattle.imagefile.specs.Imagefile.{is_text}
 use Rattle.imagefile.proofs.TextLaws.{and_text_on, and_text_stop, and_text_end}
 use Rattle.imagefile.proofs.block_is_text.Goals as goal
+use Rattle.imagefile.proofs.block_is_text.Goals.{then-block-i-gt127, else-block-i-gt127}
 
 pub loop-i-init : goal.loop-i-init
 loop-i-init c = (omega arith, refl)
@@ -20,10 +20,10 @@ loop-i-preserved c =
     let within = c.loop-i-test.true in
     let inv = c.loop-i.invariant.1 in (
       omega arith,
-      ⊎_elim
-          (λ w. ap (λ b. b && is_text (drop (i + 1) block)) w.1 ∙ sym (and_text_stop text block i within w.0.taken) ∙ inv)
-          (λ w. ap (λ b. b && is_text (drop (i + 1) block)) w.1 ∙ sym (and_text_on text block i within w.0.left) ∙ inv)
-          c.if-block-i-gt127.branch,
+      elim c.if-block-i-gt127.branch [
+        | then-block-i-gt127 w ↦ ap (λ b. b && is_text (drop (i + 1) block)) w.text-is ∙ sym (and_text_stop text block i within w.if-block-i-gt127.true) ∙ inv
+        | else-block-i-gt127 w ↦ ap (λ b. b && is_text (drop (i + 1) block)) w.text-is ∙ sym (and_text_on text block i within w.if-block-i-gt127.false) ∙ inv
+      ],
     )
 
 pub returns : goal.returns

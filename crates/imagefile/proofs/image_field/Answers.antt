@@ -30,7 +30,7 @@ unfolding has_image
 by_length c =
     let a = c.args in
     field_here a.file.now a.at image_letter 5 (word_at (drop a.at a.file.now) 1) c.if-file-at-ne101.false
-    ∙ ap (λ n. leb (5 + n) (length a.file.now - a.at)) (sym (told HELPER_c.After-word_at-length))
+    ∙ ap (λ n. leb (5 + n) (length a.file.now - a.at)) (sym (told c))
 
 pub returns-then-left-length : goal.returns-then-left-length
 returns-then-left-length c = let a = c.args in sym (image_refused _ a.at (by_length (goal.at.returns-then-left-length c).After-word_at-length ∙ lt-leb (5 + c.word_at-length.result) (length a.file.now - a.at) (omega arith)))

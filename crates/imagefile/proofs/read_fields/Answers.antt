@@ -29,7 +29,7 @@ whole c = sym c.has_field.ensures ∙ c.if-not-has_field.false
 fits : (c : Else-not-has_field) → c.loop-i.at + (3 + content_length (drop c.loop-i.at c.args.file.now)) ≤ length c.args.file.now
 fits c =
     let l = c.loop-i in
-    let f = field_fits _ _ (whole HELPER_c.Else-not-has_field) in
+    let f = field_fits _ _ (whole c) in
     let d = length-drop l.at c.args.file.now in
     let i = l.invariant.0 in
     omega arith
@@ -38,20 +38,20 @@ pub content_length-requires : goal.content_length-requires
 content_length-requires c = let f = fits (goal.at.content_length-requires c).Else-not-has_field in omega arith
 
 -- so does the place after it
-moved : (c : After-content_length) → c.loop-i.at + (3 + c.content_length.result) ≤ length c.args.file.now
-moved c = let f = fits HELPER_c.Else-not-has_field in let e = c.content_length.ensures in omega arith
+moved : (c : After-content_length) → c.loop-i.at + (3 + content_length (drop c.loop-i.at c.args.file.now)) ≤ length c.args.file.now → c.loop-i.at + (3 + c.content_length.result) ≤ length c.args.file.now
+moved c f = let e = c.content_length.ensures in omega arith
 
 pub overflow_add-at : goal.overflow_add-at
-overflow_add-at c = let m = moved (goal.at.overflow_add-at c).After-content_length in record { fits = omega arith }
+overflow_add-at c = let m = moved (goal.at.overflow_add-at c).After-content_length (fits (goal.at.overflow_add-at c).Else-not-has_field) in record { fits = omega arith }
 
 pub overflow_add-at-in-loop-i : goal.overflow_add-at-in-loop-i
-overflow_add-at-in-loop-i c = let m = moved (goal.at.overflow_add-at-in-loop-i c).After-content_length in record { fits = omega arith }
+overflow_add-at-in-loop-i c = let m = moved (goal.at.overflow_add-at-in-loop-i c).After-content_length (fits (goal.at.overflow_add-at-in-loop-i c).Else-not-has_field) in record { fits = omega arith }
 
 pub loop-i-preserved : goal.loop-i-preserved
 loop-i-preserved c =
     let l = c.loop-i in
     let file = c.args.file.now in (
-      moved (goal.at.loop-i-preserved c).After-content_length,
+      moved (goal.at.loop-i-preserved c).After-content_length (fits (goal.at.loop-i-preserved c).Else-not-has_field),
       omega arith,
       rw (c.content_length.ensures, sym (drop-drop (3 + content_length (drop l.at file)) l.at file)) (sym (fields_on (drop l.at file) l.at l.i c.loop-i-test.true (whole (goal.at.loop-i-preserved c).Else-not-has_field))) ∙ l.invariant.2,
     )

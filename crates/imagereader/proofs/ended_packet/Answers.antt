@@ -5,7 +5,6 @@ use Rattle.framing.specs.Words.{words}
 use Rattle.framing.proofs.Laws.{word_after}
 use Rattle.packets.specs.Header.{effect_of}
 use Rattle.imagereader.specs.Internal.{end_answer}
-use borrow.Author.Rules.{rules}
 use Rattle.imagereader.proofs.ended_packet.Goals as goal
 use Rattle.imagereader.proofs.ended_packet.Goals.{After-effect_of-effect}
 

@@ -1,10 +1,8 @@
 -- `first_packet` meets its contract.
 use mathlib.Core.Path.{◌≡◌, sym, ap, ◌∙◌}
-use native.Mathlib.Omega.{arith}
 use Rattle.scanner.specs.Scan.{scan_of, scanner_from, InBoundsBy}
 use Rattle.imagereader.specs.Imagereader.{first_packet}
 use Rattle.imagereader.proofs.PacketLaws.{scan_reached, scan_stopped}
-use borrow.Author.Rules.{rules}
 use Rattle.imagereader.proofs.first_packet.Goals as goal
 use Rattle.imagereader.proofs.first_packet.Goals.{After-scan-w}
 

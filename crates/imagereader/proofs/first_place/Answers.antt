@@ -3,7 +3,6 @@ use mathlib.Core.Path.{refl, sym, ◌∙◌}
 use native.Mathlib.Omega.{arith}
 use Rattle.imagereader.specs.Imagereader.{first_place}
 use Rattle.framing.proofs.Laws.{find_within}
-use borrow.Author.Rules.{rules}
 use Rattle.imagereader.proofs.first_place.Goals as goal
 
 pub overflow_add-result : goal.overflow_add-result

@@ -3,7 +3,6 @@ use Prim.Native.Nat.{ℕ}
 use mathlib.Core.Path.{ap, ap₂, ◌∙◌}
 use Rattle.imagereader.specs.Imagereader.{place_after}
 use Rattle.imagereader.specs.Types.{PacketAnswer}
-use borrow.Author.Rules.{rules}
 use Rattle.imagereader.proofs.next_result.Goals as goal
 
 pub returns : goal.returns

@@ -1,9 +1,8 @@
 -- `packet_at` meets its contract.
 use mathlib.Core.Path.{refl, sym, ◌∙◌}
-use borrow.Author.Tests.{not-true, not-false, le-leb, lt-leb}
+use borrow.Author.Tests.{le-leb, lt-leb}
 use Rattle.base.specs.Question.{ask}
 use Rattle.imagereader.specs.Imagereader.{packet_at}
-use borrow.Author.Rules.{rules}
 use Rattle.imagereader.proofs.packet_at.Goals as goal
 
 pub returns-then-not-image_length_allowed : goal.returns-then-not-image_length_allowed

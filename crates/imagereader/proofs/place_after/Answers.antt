@@ -1,6 +1,5 @@
 -- `place_after` meets its contract.
 use Rattle.imagereader.specs.Imagereader.{place_after}
-use borrow.Author.Rules.{rules}
 use Rattle.imagereader.proofs.place_after.Goals as goal
 
 pub returns-in-Found : goal.returns-in-Found

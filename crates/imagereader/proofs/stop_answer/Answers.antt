@@ -1,7 +1,6 @@
 -- `stop_answer` meets its contract.
 use mathlib.Core.Path.{refl}
 use Rattle.imagereader.specs.Internal.{stop_by}
-use borrow.Author.Rules.{rules}
 use Rattle.imagereader.proofs.stop_answer.Goals as goal
 
 pub returns-in-Fault : goal.returns-in-Fault

@@ -6,7 +6,6 @@ use lib.ListN.{length, drop}
 use Rattle.framing.specs.Words.{words}
 use Rattle.framing.proofs.Laws.{room}
 use Rattle.imagereader.proofs.PacketLaws.{packet_whole, packet_short, packet_ended}
-use borrow.Author.Rules.{rules}
 use Rattle.imagereader.proofs.whole_packet.Goals as goal
 use Rattle.imagereader.proofs.whole_packet.Goals.{After-min-here}
 

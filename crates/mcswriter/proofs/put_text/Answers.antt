@@ -25,7 +25,7 @@ returns c =
     let l = parts_long image in
     let part = c.put_part-end in
     let end = c.put_end in
-    let first : Put out 0 (part_text 0 image) (length (part_text 0 image)) part.new.1.1.0 = record { long = refl; room = omega arith; is = part.ensures.1 } in
-    let both : Put out 0 (part_text 0 image ++ record_text end_line) (length (part_text 0 image) + 12) end.new.0 =
-    put_after first part.result (record_text end_line) 12 end.new.0 part.ensures.0 end_long (omega arith) end.ensures.1 in
+    let first : Put out 0 (part_text 0 image) (length (part_text 0 image)) part.new.out = record { long = refl; room = omega arith; is = part.ensures.output } in
+    let both : Put out 0 (part_text 0 image ++ record_text end_line) (length (part_text 0 image) + 12) end.new.out =
+    put_after first part.result (record_text end_line) 12 end.new.out part.ensures.place end_long (omega arith) end.ensures.output in
     rw (in_parts.whole image) (sym (put_front both))

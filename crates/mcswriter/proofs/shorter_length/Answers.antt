@@ -9,12 +9,12 @@ use Rattle.mcswriter.proofs.shorter_length.Goals as goal
 pub returns-then-count-eq0 : goal.returns-then-count-eq0
 unfolding shorter_length
 returns-then-count-eq0 c = record {
-      value = sym (ap shorter_length c.if-count-eq0.true);
-      range = omega arith;
-    }
+  value = sym (ap shorter_length c.if-count-eq0.true);
+  range = omega arith;
+}
 
 pub returns : goal.returns
 returns c = record {
-      value = sym (shorter c.args.count (omega arith));
-      range = omega arith;
-    }
+  value = sym (shorter c.args.count (omega arith));
+  range = omega arith;
+}

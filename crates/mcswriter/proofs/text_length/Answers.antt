@@ -1,7 +1,6 @@
 -- `text_length` meets its contract.
 use mathlib.Core.Path.{refl, sym, ap, ◌∙◌}
 use borrow.Author.Rules.{rules}
-use borrow.Author.Tests.{not-true, not-false}
 use Rattle.base.specs.Question.{ask}
 use Rattle.base.proofs.Laws.{gives}
 use Rattle.kind.specs.Layout.{longest_chip}

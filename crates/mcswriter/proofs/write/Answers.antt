@@ -15,7 +15,11 @@ returns-then-out-length c =
     let args = c.args in
     let l = length_is args.image.now args.out.now _ (sym c.text_length-sized.ensures.same ∙ c.in-Text.is) in
     let e = no_room_law args.image.now args.out.now l.0 (omega arith) in
-    (gives text_numbers _ _ (sym e.0), (sym e.1, refused_back args.image.now args.out.now _ _))
+    record {
+      answer = gives text_numbers _ _ (sym e.0);
+      output = sym e.1;
+      back = refused_back args.image.now args.out.now _ _;
+    }
 
 pub put_text-requires : goal.put_text-requires
 put_text-requires c =
@@ -30,11 +34,19 @@ returns-else-out-length c =
     let l = length_is image out _ (sym c.text_length-sized.ensures.same ∙ c.in-Text.is) in
     let e = with_room image out l.0 (omega arith) in
     let put = c.put_text.ensures in
-    let back = written_back image out c.put_text.new.1.0 (λ i. omega (arith, c.shared_slice_known-1.given i)) l.0 (omega arith) put in
-    (gives text_numbers _ _ (ap Text l.1 ∙ sym e.0), (put ∙ sym e.1, rw l.1 back))
+    let back = written_back image out c.put_text.new.out (λ i. omega (arith, c.type_inv.image i)) l.0 (omega arith) put in
+    record {
+      answer = gives text_numbers _ _ (ap Text l.1 ∙ sym e.0);
+      output = put ∙ sym e.1;
+      back = rw l.1 back;
+    }
 
 pub returns-in-Refused : goal.returns-in-Refused
 returns-in-Refused c =
     let args = c.args in
     let e = length_refused args.image.now args.out.now _ _ (sym c.text_length-sized.ensures.same ∙ c.in-Refused.is) in
-    (gives text_numbers _ _ (sym e.0), (sym e.1, refused_back args.image.now args.out.now _ _))
+    record {
+      answer = gives text_numbers _ _ (sym e.0);
+      output = sym e.1;
+      back = refused_back args.image.now args.out.now _ _;
+    }

@@ -12,6 +12,11 @@ overflow_add-result c =
     let small = countable _ c.requires in
     omega (arith, c.orders_before-before.ensures, small.order, small.orders)
 
+pub overflow_add-result-2 : goal.overflow_add-result-2
+overflow_add-result-2 c =
+    let small = countable _ c.requires in
+    omega (arith, c.orders_before-before.ensures, small.order, small.orders)
+
 pub orders_before-requires : goal.orders_before-requires
 orders_before-requires c = let small = countable _ c.requires in (omega arith, small.area, small.image)
 

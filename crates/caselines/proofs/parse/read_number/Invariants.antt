@@ -1,5 +1,4 @@
--- `parse::read_number` is safe and ends.
-use Rattle.std.proofs.Common.{◌-◌, ◌≤◌, length, rules}
+use Rattle.std.proofs.Common.{◌-◌, ◌≤◌, length}
 use Rattle.caselines.proofs.parse.read_number.Given as goal
 
 abbrev pub invariant-loop-i : goal.invariant-loop-i

@@ -1,5 +1,4 @@
--- `parse::read_numbers` is safe and ends.
-use Rattle.std.proofs.Common.{◌-◌, length, rules}
+use Rattle.std.proofs.Common.{◌-◌, length}
 use Rattle.caselines.proofs.parse.read_numbers.Given as goal
 
 abbrev pub decreases-loop-next : goal.decreases-loop-next

@@ -1,5 +1,4 @@
--- `parse::read_word` is safe and ends.
-use Rattle.std.proofs.Common.{◌-◌, length, rules}
+use Rattle.std.proofs.Common.{◌-◌, length}
 use Rattle.caselines.proofs.parse.read_word.Given as goal
 
 abbrev pub decreases-loop-i : goal.decreases-loop-i

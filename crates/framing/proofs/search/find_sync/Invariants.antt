@@ -1,15 +1,8 @@
 -- `framing::find_sync` meets its contract. The outer loop's invariant: the search from here finds what the search from `from` finds. The inner one's: the bytes compared so far are those of the sync word.
-use Prim.Native.Nat.{ℕ, zero, suc, ◌+◌, ◌-◌, ◌≤◌, ◌<◌}
-use mathlib.Core.Path.{◌≡◌, refl, sym, ◌∙◌}
-use native.Mathlib.Nat.{add-zero}
-use mathlib.Core.Bool.{false}
-use mathlib.Core.List.{List}
-use native.Mathlib.Omega.{arith}
-use borrow.Author.Count.{below_more}
-use borrow.Author.Rules.{rules}
-use lib.ListN.{length, get_or, drop, length-drop}
-use Rattle.framing.specs.Search.{sync_bytes, begins_with, find}
-use Rattle.framing.proofs.SearchLaws.{find_here, find_short, find_past, differs_at, stands_at}
+use Prim.Native.Nat.{ℕ, ◌+◌, ◌-◌, ◌≤◌, ◌<◌}
+use mathlib.Core.Path.{◌≡◌}
+use lib.ListN.{length, get_or, drop}
+use Rattle.framing.specs.Search.{sync_bytes, find}
 use Rattle.framing.proofs.search.find_sync.Given as goal
 
 abbrev pub invariant-loop-i : goal.invariant-loop-i

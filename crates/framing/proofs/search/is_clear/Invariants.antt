@@ -1,11 +1,7 @@
 -- `framing::is_clear` meets its contract.
 use Prim.Native.Nat.{ℕ, ◌+◌, ◌-◌, ◌≤◌, ◌<◌}
-use mathlib.Core.Path.{◌≡◌, sym, ◌∙◌}
+use mathlib.Core.Path.{◌≡◌}
 use mathlib.Core.Bool.{true}
-use mathlib.Core.Logic.{⊎_elim}
-use native.Mathlib.Omega.{arith}
-use Rattle.base.proofs.Laws.{false_true}
-use borrow.Author.Count.{below_more}
 use lib.ListN.{get_or}
 use Rattle.framing.specs.Search.{sync_bytes}
 use Rattle.framing.proofs.search.is_clear.Given as goal

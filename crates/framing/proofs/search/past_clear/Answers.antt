@@ -1,11 +1,9 @@
 -- `framing::past_clear` meets its contract. The invariant: the search from here finds what the search from `from` finds.
-use Prim.Native.Nat.{◌+◌, ◌-◌, ◌≤◌}
-use mathlib.Core.Path.{◌≡◌, refl, sym, ◌∙◌}
+use Prim.Native.Nat.{◌+◌, ◌≤◌}
+use mathlib.Core.Path.{refl, sym, ◌∙◌}
 use native.Mathlib.Nat.{add-zero}
 use native.Mathlib.Omega.{arith}
-use borrow.Author.Tests.{not-false}
-use lib.ListN.{length, drop}
-use Rattle.framing.specs.Search.{find}
+use lib.ListN.{length}
 use Rattle.framing.proofs.SearchLaws.{find_past, differs_at}
 use Rattle.framing.proofs.search.past_clear.Goals as goal
 

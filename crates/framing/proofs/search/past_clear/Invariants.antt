@@ -1,12 +1,8 @@
 -- `framing::past_clear` meets its contract. The invariant: the search from here finds what the search from `from` finds.
-use Prim.Native.Nat.{◌+◌, ◌-◌, ◌≤◌}
-use mathlib.Core.Path.{◌≡◌, refl, sym, ◌∙◌}
-use native.Mathlib.Nat.{add-zero}
-use native.Mathlib.Omega.{arith}
-use borrow.Author.Tests.{not-false}
+use Prim.Native.Nat.{◌-◌, ◌≤◌}
+use mathlib.Core.Path.{◌≡◌}
 use lib.ListN.{length, drop}
 use Rattle.framing.specs.Search.{find}
-use Rattle.framing.proofs.SearchLaws.{find_past, differs_at}
 use Rattle.framing.proofs.search.past_clear.Given as goal
 
 abbrev pub invariant-loop-at : goal.invariant-loop-at

@@ -1,7 +1,6 @@
 -- `framing::word_at` meets its contract.
 use native.Mathlib.Omega.{arith}
 use Rattle.framing.proofs.WordLaws.{word_of_law}
-use borrow.Author.Rules.{rules}
 use Rattle.framing.proofs.words.word_at.Goals as goal
 
 pub returns : goal.returns

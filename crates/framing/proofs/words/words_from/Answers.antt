@@ -2,7 +2,6 @@
 use mathlib.Core.Path.{sym}
 use native.Mathlib.Omega.{arith}
 use Rattle.framing.proofs.WordLaws.{room}
-use borrow.Author.Rules.{rules}
 use Rattle.framing.proofs.words.words_from.Goals as goal
 
 pub returns-then-at-s : goal.returns-then-at-s

@@ -4,7 +4,6 @@ use native.Mathlib.Omega.{arith}
 use borrow.Author.Tests.{eq-eqb, ne_eqb, le-leb, lt-leb}
 use Rattle.base.specs.Question.{ask}
 use Rattle.kind.specs.Layout.{update_place_allowed}
-use borrow.Author.Rules.{rules}
 use Rattle.kind.proofs.layout.update_place_allowed.Goals as goal
 
 pub returns-then-update_place-ne0 : goal.returns-then-update_place-ne0

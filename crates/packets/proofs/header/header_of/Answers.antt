@@ -3,7 +3,6 @@ use borrow.Author.Tests.{eq-eqb, ne_eqb}
 use mathlib.Core.Path.{◌∙◌}
 use Rattle.base.specs.Question.{ask}
 use Rattle.packets.specs.Header.{head_of}
-use borrow.Author.Rules.{rules}
 use Rattle.packets.proofs.header.header_of.Goals as goal
 
 pub returns-then-kind-eq1 : goal.returns-then-kind-eq1

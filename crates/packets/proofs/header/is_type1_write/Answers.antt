@@ -1,8 +1,6 @@
 -- `header::is_type1_write` meets its contract: the form and the register decide the definition.
 use mathlib.Core.Path.{sym, ◌∙◌}
-use borrow.Author.Tests.{not-false}
 use Rattle.base.proofs.Laws.{false_true}
-use borrow.Author.Rules.{rules}
 use Rattle.packets.proofs.header.is_type1_write.Goals as goal
 
 pub returns-then-not-is_type1_form : goal.returns-then-not-is_type1_form

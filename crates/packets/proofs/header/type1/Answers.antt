@@ -3,7 +3,6 @@ use borrow.Author.Tests.{eq-eqb, ne_eqb}
 use mathlib.Core.Path.{sym, ◌∙◌}
 use Rattle.base.specs.Question.{ask}
 use Rattle.packets.specs.Header.{type1_of}
-use borrow.Author.Rules.{rules}
 use Rattle.packets.proofs.header.type1.Goals as goal
 
 pub returns-then-word-ne0 : goal.returns-then-word-ne0

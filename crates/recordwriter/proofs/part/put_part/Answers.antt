@@ -21,10 +21,7 @@ pub loop-done-preserved : goal.loop-done-preserved
 loop-done-preserved c =
     let upper = c.put_upper-at in
     let line = c.put_record-at in
-    written_more c.loop-done.invariant c.loop-done-test.true c.min-count.ensures c.requires.1 upper.new.0 line.new.0 upper.result line.result upper.ensures.0 line.ensures.0 upper.ensures.1 line.ensures.1
-
-pub shape_of-out : goal.shape_of-out
-shape_of-out c = put_length c.loop-done.invariant.put
+    written_more c.loop-done.invariant c.loop-done-test.true c.min-count.ensures c.requires.1 upper.new.out line.new.out upper.result line.result upper.ensures.place line.ensures.place upper.ensures.output line.ensures.output
 
 pub returns : goal.returns
 returns c =

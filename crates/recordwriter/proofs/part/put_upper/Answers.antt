@@ -7,7 +7,10 @@ use Rattle.recordwriter.proofs.PartLaws.{upper_line_law, upper_long, no_upper}
 use Rattle.recordwriter.proofs.part.put_upper.Goals as goal
 
 pub returns-then-place-ne0 : goal.returns-then-place-ne0
-returns-then-place-ne0 c = rw (no_upper c.args.place c.if-place-ne0.true) (omega arith, paste-zero c.args.out.now c.args.at [])
+returns-then-place-ne0 c = record {
+  place = rw (no_upper c.args.place c.if-place-ne0.true) (omega arith);
+  output = rw (no_upper c.args.place c.if-place-ne0.true) (paste-zero c.args.out.now c.args.at []);
+}
 
 pub put_record-requires : goal.put_record-requires
 put_record-requires c = omega (arith, upper_long c.args.place c.if-place-ne0.false)
@@ -16,4 +19,7 @@ pub returns : goal.returns
 returns c =
     let place = c.args.place in
     let whole = c.if-place-ne0.false in
-    rw (upper_long place whole, upper_line_law place whole) c.put_record.ensures
+    record {
+      place = rw (upper_long place whole) c.put_record.ensures.place;
+      output = rw (upper_long place whole, upper_line_law place whole) c.put_record.ensures.output;
+    }

@@ -27,21 +27,14 @@ put_pair-requires-3 c = omega (arith, stored (goal.at.put_pair-requires-3 c).Sta
 pub put_pair-requires-4 : goal.put_pair-requires-4
 put_pair-requires-4 c = omega (arith, stored (goal.at.put_pair-requires-4 c).Start)
 
-pub shape_of-out : goal.shape_of-out
-shape_of-out c = omega (arith, stored (goal.at.shape_of-out c).Start)
-
 pub returns : goal.returns
 unfolding hex
 returns c =
-    let pair3 = pair4 in
-    let pair2 = pair3 in
-    let pair1 = pair2 in
-    let begun = pair1 in
-    let out = begun.args.out.now in
-    let at = begun.args.at in
-    let address = begun.args.address in
+    let out = c.args.out.now in
+    let at = c.args.at in
+    let address = c.args.address in
     let colon : Put out at (COLON ∷ []) 1 (set out at COLON) = record { long = refl; room = omega arith; is = paste_one out at COLON (omega arith) } in
-    let one = put_then colon (hex (begun.args.count ∷ [])) 2 pair1.put_pair.new.0 refl (omega arith) pair1.put_pair.ensures in
-    let two = put_then one (hex (address / 256 ∷ [])) 2 pair2.put_pair-2.new.0 refl (omega arith) pair2.put_pair-2.ensures in
-    let three = put_then two (hex (address % 256 ∷ [])) 2 pair3.put_pair-3.new.0 refl (omega arith) pair3.put_pair-3.ensures in
-    (put_then three (hex (begun.args.kind ∷ [])) 2 c.put_pair-4.new.0 refl (omega arith) c.put_pair-4.ensures).is
+    let one = put_then colon (hex (c.args.count ∷ [])) 2 c.put_pair.new.out refl (omega arith) c.put_pair.ensures in
+    let two = put_then one (hex (address / 256 ∷ [])) 2 c.put_pair-2.new.out refl (omega arith) c.put_pair-2.ensures in
+    let three = put_then two (hex (address % 256 ∷ [])) 2 c.put_pair-3.new.out refl (omega arith) c.put_pair-3.ensures in
+    (put_then three (hex (c.args.kind ∷ [])) 2 c.put_pair-4.new.out refl (omega arith) c.put_pair-4.ensures).is

@@ -28,19 +28,14 @@ put-parts out at kind address bytes count sum headed paired summed long is_sum r
     let total : 9 + 2 * count + 2 + 1 ≡ 2 * count + 12 = omega arith in
     rw (← line_parts kind address bytes, ← is_sum, long, ← total) four
 
-pub shape_of-out : goal.shape_of-out
-shape_of-out c = simp length-set (omega arith)
-
 pub returns : goal.returns
 returns c =
-    let paired = summed in
-    let headed = paired in
-    let args = headed.args in
+    let args = c.args in
     let bytes = take args.count (drop args.from args.bytes.now) in
     let long = span_long args.bytes.now args.from args.count (omega arith) in
     let line =
-    put-parts args.out.now args.at args.kind args.address bytes args.count c.sum_of.result headed.put_header.new.0 paired.put_pairs.new.1.1.1.0 c.put_pair.new.0
-    long c.sum_of.ensures (omega arith) headed.put_header.ensures paired.put_pairs.ensures c.put_pair.ensures in
+    put-parts args.out.now args.at args.kind args.address bytes args.count c.sum_of.result c.put_header.new.out c.put_pairs.new.out c.put_pair.new.out
+    long c.sum_of.ensures (omega arith) c.put_header.ensures c.put_pairs.ensures c.put_pair.ensures in
     record {
       place = omega arith;
       output = line.is;

@@ -9,7 +9,6 @@ use lib.ListN.{get_or, drop}
 use Rattle.framing.specs.Words.{words}
 use Rattle.packets.specs.Header.{WBSTAR}
 use Rattle.framing.proofs.Laws.{word_after}
-use borrow.Author.Rules.{rules}
 use Rattle.scanner.proofs.scan.after_packet.Goals as goal
 use Rattle.scanner.proofs.scan.after_packet.Goals.{Joined-w-eq-WBSTAR, then-w-eq-WBSTAR, else-w-eq-WBSTAR}
 

@@ -1,14 +1,10 @@
 -- `scan::count_plain_words` meets its contract.
-use Prim.Native.Nat.{ℕ, ◌-◌, ◌≤◌, ◌<◌}
 use mathlib.Core.Path.{◌≡◌, sym, ap, ◌∙◌}
-use mathlib.Core.Logic.{⊎_elim}
 use native.Mathlib.Omega.{arith}
-use borrow.Author.Rules.{rules}
 use borrow.Author.Count.{below_more}
 use lib.ListN.{get_or, drop}
 use Rattle.framing.specs.Words.{words}
 use Rattle.packets.specs.Header.{effect_of}
-use Rattle.scanner.specs.Types.{GoesOn}
 use Rattle.framing.proofs.Laws.{room, word_after}
 use Rattle.scanner.proofs.ScanLaws.{other_plain}
 use Rattle.scanner.proofs.scan.count_plain_words.Goals as goal

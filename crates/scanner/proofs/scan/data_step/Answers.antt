@@ -6,7 +6,6 @@ use lib.ListN.{length, drop}
 use Rattle.framing.specs.Words.{words}
 use Rattle.framing.proofs.Laws.{room}
 use Rattle.scanner.proofs.ScanLaws.{data_short, data_past, data_reached, data_end}
-use borrow.Author.Rules.{rules}
 use Rattle.scanner.proofs.scan.data_step.Goals as goal
 use Rattle.scanner.proofs.scan.data_step.Goals.{After-count_plain_words-run}
 

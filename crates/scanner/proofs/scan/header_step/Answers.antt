@@ -10,7 +10,6 @@ use Rattle.packets.specs.Trace.{after_header, mode_of}
 use Rattle.scanner.specs.Scan.{before_of}
 use Rattle.framing.proofs.Laws.{room}
 use Rattle.scanner.proofs.ScanLaws.{header_short, header_on, header_fault}
-use borrow.Author.Rules.{rules}
 use Rattle.scanner.proofs.scan.header_step.Goals as goal
 use Rattle.scanner.proofs.scan.header_step.Goals.{After-header_of-header, After-word_at}
 

@@ -5,7 +5,6 @@ use Rattle.framing.specs.Words.{words}
 use Rattle.packets.specs.Header.{effect_of}
 use Rattle.scanner.specs.Scan.{scanner_at_end}
 use Rattle.framing.proofs.Laws.{word_after}
-use borrow.Author.Rules.{rules}
 use Rattle.scanner.proofs.scan.scan_end.Goals as goal
 use Rattle.scanner.proofs.scan.scan_end.Goals.{After-effect_of-effect}
 

@@ -1,5 +1,6 @@
 -- `run::stop_number` meets its contract.
 use mathlib.Core.Path.{refl, sym}
+use native.Mathlib.Omega.{arith}
 use Rattle.orders.specs.Table.{by_phase}
 use Rattle.updater.specs.Run.{stop_of}
 use Rattle.updater.proofs.CallLaws.{stop_none}
@@ -18,4 +19,4 @@ unfolding stop_of by_phase
 returns-in-6 c = rw c.in-6.is refl
 
 pub returns-in_default : goal.returns-in_default
-returns-in_default c = let k = c.in-1.rest in sym (stop_none _ k.0.0.1 k.0.1 k.1)
+returns-in_default c = sym (stop_none _ (omega arith) (omega arith) (omega arith))

@@ -1,7 +1,5 @@
 -- `cursor::nth_from` meets its contract.
 use mathlib.Core.Path.{◌≡◌, ap, ◌∙◌}
-use native.Mathlib.Omega.{arith}
-use borrow.Author.Rules.{rules}
 use Rattle.packets.specs.Trace.{nth_write, writes_from}
 use Rattle.scanner.specs.Scan.{scan_of, InBoundsBy}
 use Rattle.scanner.proofs.Laws.{at_write, at_end, scanned_write, nth_scan}

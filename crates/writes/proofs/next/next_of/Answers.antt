@@ -1,7 +1,6 @@
 -- `next::next_of` meets its contract.
 use mathlib.Core.Path.{sym, ap}
 use native.Mathlib.Omega.{arith}
-use borrow.Author.Rules.{rules}
 use lib.ListN.{drop}
 use Rattle.framing.specs.Words.{words}
 use Rattle.packets.specs.Trace.{Mode, mode_of, other, trace}

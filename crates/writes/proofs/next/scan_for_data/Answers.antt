@@ -2,7 +2,6 @@
 use Prim.Native.Nat.{ℕ}
 use mathlib.Core.Path.{◌≡◌, sym, ap, ◌∙◌}
 use native.Mathlib.Omega.{arith}
-use borrow.Author.Rules.{rules}
 use Rattle.packets.specs.Trace.{trace_from}
 use Rattle.scanner.specs.Scan.{scan_of, InBoundsBy}
 use Rattle.scanner.proofs.Laws.{at_write, at_end}

@@ -2,7 +2,6 @@
 use Prim.Native.Nat.{ℕ}
 use mathlib.Core.Path.{◌≡◌, sym, ◌∙◌}
 use native.Mathlib.Omega.{arith}
-use borrow.Author.Rules.{rules}
 use Rattle.packets.specs.Trace.{finish_from}
 use Rattle.scanner.specs.Scan.{ScanFinished, scan_of}
 use Rattle.scanner.proofs.Laws.{at_write, finish_scan}

@@ -1,6 +1,5 @@
 -- `reading::finish_of` meets its contract.
 use mathlib.Core.Path.{refl}
-use borrow.Author.Rules.{rules}
 use Rattle.scanner.specs.Scan.{scanned_by}
 use Rattle.writes.proofs.reading.finish_of.Goals as goal
 

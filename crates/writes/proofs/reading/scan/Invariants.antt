@@ -1,10 +1,7 @@
 -- `reading::scan` meets its contract. The invariant: the scanner here comes to what the scanner at the start comes to.
-use mathlib.Core.Path.{◌≡◌, refl, ◌∙◌}
-use mathlib.Core.Logic.{⊎_elim}
-use native.Mathlib.Omega.{arith}
-use borrow.Author.Rules.{rules}
+use mathlib.Core.Path.{◌≡◌}
 use lib.ListN.{length}
-use Rattle.scanner.specs.Scan.{scan_of, scanner_from, InBoundsBy, InBounds, bytes_left}
+use Rattle.scanner.specs.Scan.{scan_of, scanner_from, InBounds, bytes_left}
 use Rattle.writes.proofs.reading.scan.Given as goal
 
 abbrev pub invariant-loop-w : goal.invariant-loop-w

@@ -1,6 +1,5 @@
 -- `reading::write_at` meets its contract.
 use mathlib.Core.Path.{refl}
-use borrow.Author.Rules.{rules}
 use Rattle.writes.proofs.reading.write_at.Goals as goal
 
 pub returns : goal.returns

@@ -1,10 +1,8 @@
 -- `Layout::check` meets its contract.
 use mathlib.Core.Path.{refl, sym, ◌∙◌}
-use borrow.Author.Tests.{not-true, not-false}
 use Rattle.base.proofs.Laws.{gives}
 use Rattle.base.specs.Question.{ask}
 use Rattle.kind.specs.Layout.{layout_numbers, ask_layout, layout_answer}
-use borrow.Author.Rules.{rules}
 use Rattle.kind.proofs.layout.Layout.check.Goals as goal
 
 pub returns-then-not-chip_length_allowed : goal.returns-then-not-chip_length_allowed

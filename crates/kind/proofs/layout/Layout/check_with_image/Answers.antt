@@ -1,6 +1,5 @@
 -- `Layout::check_with_image` meets its contract.
-use mathlib.Core.Path.{refl, sym, ◌∙◌}
-use borrow.Author.Rules.{rules}
+use mathlib.Core.Path.{sym, ◌∙◌}
 use Rattle.base.proofs.Laws.{gives}
 use Rattle.base.specs.Question.{ask}
 use Rattle.kind.specs.Layout.{layout_numbers}

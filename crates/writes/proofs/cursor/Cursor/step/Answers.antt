@@ -1,6 +1,5 @@
 -- `Cursor::step` meets its contract.
 use mathlib.Core.Path.{◌∙◌}
-use borrow.Author.Rules.{rules}
 use Rattle.base.proofs.Laws.{gives}
 use Rattle.writes.specs.Cursor.{step_numbers}
 use Rattle.writes.proofs.CursorLaws.{step_remaining}
