@@ -14,6 +14,6 @@ returns c =
     c.progress_result.ensures
     ∙ ap progress_result
     (elim c.if-has_number.branch [
-      then-has_number w ↦ rw (asked ∙ w.if-has_number.true) (w.answer-is ∙ w.progress-answer.ensures.same ∙ ap progress_answer w.state_of.ensures)
-    | else-has_number w ↦ rw (asked ∙ w.if-has_number.false) w.answer-is
+      | then-has_number w ↦ rw (asked ∙ w.if-has_number.true) (w.answer-is ∙ w.progress-answer.ensures.same ∙ ap progress_answer w.state_of.ensures)
+      | else-has_number w ↦ rw (asked ∙ w.if-has_number.false) w.answer-is
     ])

@@ -14,6 +14,6 @@ returns c =
     c.total_result.ensures
     ∙ ap total_result
     (elim c.if-has_number.branch [
-      then-has_number w ↦ rw (asked ∙ w.if-has_number.true) (w.answer-is ∙ w.total-answer.ensures.same ∙ ap (λ given. total_answer given c.args.n) w.layout.ensures)
-    | else-has_number w ↦ rw (asked ∙ w.if-has_number.false) w.answer-is
+      | then-has_number w ↦ rw (asked ∙ w.if-has_number.true) (w.answer-is ∙ w.total-answer.ensures.same ∙ ap (λ given. total_answer given c.args.n) w.layout.ensures)
+      | else-has_number w ↦ rw (asked ∙ w.if-has_number.false) w.answer-is
     ])

@@ -19,11 +19,11 @@ returns c =
       answer = c.build_result.ensures
           ∙ ap build_result
           (elim c.if-has_number.branch [
-            then-has_number w ↦ rw (asked ∙ w.if-has_number.true) (w.answer-is ∙ w.build-answer.ensures.answer.same ∙ ap (λ given. build_answer spi given golden (length buffer)) w.layout.ensures)
-          | else-has_number w ↦ rw (asked ∙ w.if-has_number.false) w.answer-is
+            | then-has_number w ↦ rw (asked ∙ w.if-has_number.true) (w.answer-is ∙ w.build-answer.ensures.answer.same ∙ ap (λ given. build_answer spi given golden (length buffer)) w.layout.ensures)
+            | else-has_number w ↦ rw (asked ∙ w.if-has_number.false) w.answer-is
           ]);
       output = elim c.if-has_number.branch [
-            then-has_number w ↦ rw (asked ∙ w.if-has_number.true) (w.out-is ∙ w.build-answer.ensures.output ∙ ap (λ given. build_output spi given golden buffer) w.layout.ensures)
-          | else-has_number w ↦ rw (asked ∙ w.if-has_number.false) w.out-is
-          ];
+        | then-has_number w ↦ rw (asked ∙ w.if-has_number.true) (w.out-is ∙ w.build-answer.ensures.output ∙ ap (λ given. build_output spi given golden buffer) w.layout.ensures)
+        | else-has_number w ↦ rw (asked ∙ w.if-has_number.false) w.out-is
+      ];
     }

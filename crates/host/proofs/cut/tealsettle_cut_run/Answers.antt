@@ -13,11 +13,11 @@ returns c =
       answer = c.bench_result.ensures
           ∙ ap bench_result
           (elim c.if-has_number.branch [
-            then-has_number w ↦ rw (asked ∙ w.if-has_number.true) (w.answer-is ∙ w.cut_run-answer.ensures.answer.same)
-          | else-has_number w ↦ rw (asked ∙ w.if-has_number.false) w.answer-is
+            | then-has_number w ↦ rw (asked ∙ w.if-has_number.true) (w.answer-is ∙ w.cut_run-answer.ensures.answer.same)
+            | else-has_number w ↦ rw (asked ∙ w.if-has_number.false) w.answer-is
           ]);
       output = elim c.if-has_number.branch [
-            then-has_number w ↦ rw (asked ∙ w.if-has_number.true) (w.chip-is ∙ w.cut_run-answer.ensures.output)
-          | else-has_number w ↦ rw (asked ∙ w.if-has_number.false) w.chip-is
-          ];
+        | then-has_number w ↦ rw (asked ∙ w.if-has_number.true) (w.chip-is ∙ w.cut_run-answer.ensures.output)
+        | else-has_number w ↦ rw (asked ∙ w.if-has_number.false) w.chip-is
+      ];
     }

@@ -14,6 +14,6 @@ returns c =
     c.finished_result.ensures
     ∙ ap finished_result
     (elim c.if-has_number.branch [
-      then-has_number w ↦ rw (asked ∙ w.if-has_number.true) (w.answer-is ∙ w.finished-answer.ensures.same ∙ ap (λ given. finished_answer given) w.state_of-state.ensures)
-    | else-has_number w ↦ rw (asked ∙ w.if-has_number.false) w.answer-is
+      | then-has_number w ↦ rw (asked ∙ w.if-has_number.true) (w.answer-is ∙ w.finished-answer.ensures.same ∙ ap (λ given. finished_answer given) w.state_of-state.ensures)
+      | else-has_number w ↦ rw (asked ∙ w.if-has_number.false) w.answer-is
     ])

@@ -15,6 +15,6 @@ returns c =
     c.start_result.ensures
     ∙ ap start_result
     (elim c.if-has_number.branch [
-      then-has_number w ↦ rw (asked ∙ w.if-has_number.true) (w.answer-is ∙ w.start-answer.ensures.same ∙ ap (λ given. start_answer spi given c.args.image.now) w.layout.ensures)
-    | else-has_number w ↦ rw (asked ∙ w.if-has_number.false) w.answer-is
+      | then-has_number w ↦ rw (asked ∙ w.if-has_number.true) (w.answer-is ∙ w.start-answer.ensures.same ∙ ap (λ given. start_answer spi given c.args.image.now) w.layout.ensures)
+      | else-has_number w ↦ rw (asked ∙ w.if-has_number.false) w.answer-is
     ])

@@ -6,6 +6,6 @@ use Rattle.hostfiles.proofs.most.tealsettle_heaviest_image.Goals as goal
 
 pub returns : goal.returns
 returns c = record {
-      answer = c.most_result.ensures ∙ ap most_result c.write_image.ensures.answer.same;
-      output = c.write_image.ensures.output;
-    }
+  answer = c.most_result.ensures ∙ ap most_result c.write_image.ensures.answer.same;
+  output = c.write_image.ensures.output;
+}

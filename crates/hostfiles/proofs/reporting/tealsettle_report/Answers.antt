@@ -13,11 +13,11 @@ returns c =
       answer = c.report_result.ensures
           ∙ ap report_result
           (elim c.if-has_number.branch [
-            then-has_number w ↦ rw (asked ∙ w.if-has_number.true) (w.answer-is ∙ w.report-answer.ensures.answer.same)
-          | else-has_number w ↦ rw (asked ∙ w.if-has_number.false) w.answer-is
+            | then-has_number w ↦ rw (asked ∙ w.if-has_number.true) (w.answer-is ∙ w.report-answer.ensures.answer.same)
+            | else-has_number w ↦ rw (asked ∙ w.if-has_number.false) w.answer-is
           ]);
       output = elim c.if-has_number.branch [
-            then-has_number w ↦ rw (asked ∙ w.if-has_number.true) (w.out-is ∙ w.report-answer.ensures.output)
-          | else-has_number w ↦ rw (asked ∙ w.if-has_number.false) w.out-is
-          ];
+        | then-has_number w ↦ rw (asked ∙ w.if-has_number.true) (w.out-is ∙ w.report-answer.ensures.output)
+        | else-has_number w ↦ rw (asked ∙ w.if-has_number.false) w.out-is
+      ];
     }

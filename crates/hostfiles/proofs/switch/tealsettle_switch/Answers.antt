@@ -13,6 +13,6 @@ returns c =
     c.switch_result.ensures
     ∙ ap switch_result
     (elim c.if-has_number.branch [
-      then-has_number w ↦ rw (asked ∙ w.if-has_number.true) (w.answer-is ∙ w.read-answer.ensures.same)
-    | else-has_number w ↦ rw (asked ∙ w.if-has_number.false) w.answer-is
+      | then-has_number w ↦ rw (asked ∙ w.if-has_number.true) (w.answer-is ∙ w.read-answer.ensures.same)
+      | else-has_number w ↦ rw (asked ∙ w.if-has_number.false) w.answer-is
     ])

@@ -11,9 +11,9 @@ report_loaded-requires c = sym c.in-Loaded.is ∙ c.answer-booted.ensures.same
 
 pub returns-in-Loaded : goal.returns-in-Loaded
 returns-in-Loaded c = record {
-      answer = gives report_numbers _ _ c.report_loaded.ensures.value;
-      output = c.report_loaded.ensures.out_after;
-    }
+  answer = gives report_numbers _ _ c.report_loaded.ensures.value;
+  output = c.report_loaded.ensures.out_after;
+}
 
 pub returns-in-Stuck : goal.returns-in-Stuck
 returns-in-Stuck c =
