@@ -16,19 +16,43 @@ use std::io::Write;
 
 fn build(out: &mut impl Write, n: Numbers, image: &[u8], lent: &mut [u8]) -> io::Result<()> {
     let answer = tealsettle_build(SPI, n.f, n.g, n.h, image, lent);
-    say::result(out, words::BUILT, words::REFUSED, answer.number, answer.place)
+    say::result(
+        out,
+        words::BUILT,
+        words::REFUSED,
+        answer.number,
+        answer.place,
+    )
 }
 
 fn read(out: &mut impl Write, text: &[u8], lent: &mut [u8]) -> io::Result<()> {
     let answer = tealsettle_mcs_read(text, lent);
-    say::result(out, words::READ, words::REFUSED, answer.number, answer.place)?;
+    say::result(
+        out,
+        words::READ,
+        words::REFUSED,
+        answer.number,
+        answer.place,
+    )?;
     say::number(out, answer.length)
 }
 
 // A run that is cut: U, A and the number of orders before the cut.
-fn cut(out: &mut impl Write, n: Numbers, image: &[u8], damage: &[u8], chip: &mut [u8]) -> io::Result<()> {
+fn cut(
+    out: &mut impl Write,
+    n: Numbers,
+    image: &[u8],
+    damage: &[u8],
+    chip: &mut [u8],
+) -> io::Result<()> {
     let answer = tealsettle_cut_run(SPI, chip, n.f, n.g, image, n.h, damage);
-    say::result(out, words::REACHED, words::REFUSED, answer.number, answer.place)?;
+    say::result(
+        out,
+        words::REACHED,
+        words::REFUSED,
+        answer.number,
+        answer.place,
+    )?;
     say::state(
         out,
         answer.state.length,
@@ -42,7 +66,14 @@ fn cut(out: &mut impl Write, n: Numbers, image: &[u8], damage: &[u8], chip: &mut
 }
 
 // A call, and the bytes that it was lent as they are then.
-fn call_out(out: &mut impl Write, key: u64, n: Numbers, first: &[u8], second: &[u8], lent: &mut [u8]) -> io::Result<()> {
+fn call_out(
+    out: &mut impl Write,
+    key: u64,
+    n: Numbers,
+    first: &[u8],
+    second: &[u8],
+    lent: &mut [u8],
+) -> io::Result<()> {
     match key {
         words::BUILD => build(out, n, second, lent)?,
         words::READ => read(out, second, lent)?,
@@ -57,12 +88,5 @@ pub fn call(out: &mut impl Write, case: Case, given: &[u8]) -> io::Result<()> {
     let second = field(given, case.second, case.third);
     let mut space = room();
     let size = copy_field(given, case.third, case.end, &mut space);
-    call_out(
-        out,
-        case.key,
-        case.n,
-        first,
-        second,
-        &mut space[0..size],
-    )
+    call_out(out, case.key, case.n, first, second, &mut space[0..size])
 }

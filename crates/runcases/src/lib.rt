@@ -25,7 +25,13 @@ fn layout(out: &mut impl Write, n: Numbers) -> io::Result<()> {
 
 fn start(out: &mut impl Write, n: Numbers, image: &[u8]) -> io::Result<()> {
     let answer = tealsettle_start(SPI, n.f, n.g, n.h, image);
-    say::result(out, words::STARTED, words::REFUSED, answer.number, answer.place)?;
+    say::result(
+        out,
+        words::STARTED,
+        words::REFUSED,
+        answer.number,
+        answer.place,
+    )?;
     say::state(
         out,
         answer.state.length,
@@ -40,7 +46,13 @@ fn start(out: &mut impl Write, n: Numbers, image: &[u8]) -> io::Result<()> {
 
 fn total(out: &mut impl Write, n: Numbers) -> io::Result<()> {
     let answer = tealsettle_total(SPI, n.e, n.f, n.g, n.h);
-    say::result(out, words::TOTAL, words::REFUSED, answer.number, answer.place)?;
+    say::result(
+        out,
+        words::TOTAL,
+        words::REFUSED,
+        answer.number,
+        answer.place,
+    )?;
     say::number(out, answer.orders)
 }
 
