@@ -9,7 +9,7 @@ ghost use Rattle.filereport.specs.Filereport.{file_report, file_output};
 use filereport::report;
 use report::refusal::ReportAnswer;
 use std::io;
-use std::io::{ErrorKind, Print, Read};
+use std::io::{ErrorKind, Read};
 
 // One byte more than the longest text that is read, so that a longer one shows.
 fn input() -> [u8; 65537] {

@@ -1,13 +1,9 @@
 -- `main` is safe: what it prints stands whole in the buffer.
-use Prim.Native.Nat.{◌≤◌}
-use mathlib.Core.Path.{sym}
-use native.Mathlib.Omega.{arith}
-use lib.ListN.{length}
-use lib.Seq.{length-take-le}
+use Rattle.std.proofs.Common.{◌≤◌, sym, arith, length}
+use Rattle.std.proofs.lemmas.List.{length-take-le}
 use Rattle.filereport.specs.Filereport.{file_report}
 use Rattle.filereport.proofs.Laws.{file_report_fits}
 use Rattle.report.proofs.Laws.{written_within}
-use borrow.Author.Rules.{rules}
 use Rattle.bootreport.proofs.main.Goals as goal
 use Rattle.bootreport.proofs.main.Goals.{After-whole_report-written}
 

@@ -1,10 +1,6 @@
 -- `whole_report` meets its contract: no report is longer than the buffer, so none is refused.
-use Prim.Native.Nat.{ℕ}
-use mathlib.Core.Path.{◌≡◌, sym, ◌∙◌}
-use native.Mathlib.Omega.{arith}
-use lib.ListN.{length}
+use Rattle.std.proofs.Common.{◌≡◌, ℕ, sym, ◌∙◌, arith, length}
 use Rattle.filereport.proofs.Laws.{file_report_fits}
-use borrow.Author.Rules.{rules}
 use Rattle.bootreport.proofs.whole_report.Goals as goal
 
 pub returns-in_default : goal.returns-in_default
