@@ -1,9 +1,5 @@
 -- `put_decimal` meets its contract: the last digit is stored after the others.
-use Prim.Native.Nat.{◌+◌, ◌/◌}
-use mathlib.Core.Path.{◌≡◌}
 use native.Mathlib.Omega.{arith}
-use lib.ListN.{length}
-use Rattle.fields.specs.Fields.{decimal}
 use Rattle.fields.proofs.FieldLaws.{length_small, length_step, put_only, put_last}
 use Rattle.fields.proofs.+put_decimal.Goals as goal
 

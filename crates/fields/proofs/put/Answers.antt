@@ -1,6 +1,5 @@
 -- `fields::put` meets its contract.
 use Rattle.fields.proofs.PutLaws.{paste_front}
-use borrow.Author.Rules.{rules}
 use Rattle.fields.proofs.put.Goals as goal
 
 pub returns : goal.returns

@@ -5,7 +5,6 @@ use lib.ListN.{length, set}
 use Rattle.fields.proofs.PutLaws.{Put, put_byte}
 use Rattle.fields.specs.Fields.{decimal}
 use native.Mathlib.Omega.{arith}
-use borrow.Author.Rules.{rules}
 use Rattle.fields.proofs.put_decimal_field.Goals as goal
 
 pub returns : goal.returns

@@ -1,10 +1,9 @@
 -- `fields::put_hexadecimal` meets its contract. The loop's invariant: with the digits that are left put before those that are there, all are.
-use Prim.Native.Nat.{ℕ, ◌+◌, ◌-◌, ◌/◌, ◌%◌, ◌≤◌}
+use Prim.Native.Nat.{ℕ, ◌+◌, ◌-◌, ◌/◌, ◌%◌}
 use mathlib.Core.Path.{◌≡◌, refl, ap, ◌∙◌}
 use mathlib.Core.List.{List}
 use native.Mathlib.Omega.{arith}
-use borrow.Author.Rules.{rules}
-use lib.ListN.{length, get_or, set, length-set}
+use lib.ListN.{get_or, set, length-set}
 use lib.Seq.{paste, paste-zero}
 use Rattle.digits.specs.Digit.{hexadecimal}
 use Rattle.fields.proofs.FieldLaws.{digit_behind}

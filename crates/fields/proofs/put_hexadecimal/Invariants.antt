@@ -1,13 +1,9 @@
 -- `fields::put_hexadecimal` meets its contract. The loop's invariant: with the digits that are left put before those that are there, all are.
-use Prim.Native.Nat.{ℕ, ◌+◌, ◌-◌, ◌/◌, ◌%◌, ◌≤◌}
-use mathlib.Core.Path.{◌≡◌, refl, ap, ◌∙◌}
-use mathlib.Core.List.{List}
-use native.Mathlib.Omega.{arith}
-use borrow.Author.Rules.{rules}
-use lib.ListN.{length, get_or, set, length-set}
-use lib.Seq.{paste, paste-zero}
+use Prim.Native.Nat.{◌≤◌}
+use mathlib.Core.Path.{◌≡◌}
+use lib.ListN.{length}
+use lib.Seq.{paste}
 use Rattle.digits.specs.Digit.{hexadecimal}
-use Rattle.fields.proofs.FieldLaws.{digit_behind}
 use Rattle.fields.proofs.put_hexadecimal.Given as goal
 
 abbrev pub invariant-loop-left : goal.invariant-loop-left

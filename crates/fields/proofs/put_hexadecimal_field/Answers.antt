@@ -3,7 +3,6 @@ use Rattle.fields.proofs.PutLaws.{Put, put_byte}
 use Rattle.fields.proofs.FieldLaws.{length_hexadecimal}
 use Rattle.digits.specs.Digit.{hexadecimal}
 use native.Mathlib.Omega.{arith}
-use borrow.Author.Rules.{rules}
 use Rattle.fields.proofs.put_hexadecimal_field.Goals as goal
 
 pub returns : goal.returns

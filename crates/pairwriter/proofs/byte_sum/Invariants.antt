@@ -1,10 +1,8 @@
 -- `byte_sum` meets its contract. The loop's invariant: the sum of the bytes so far.
-use Prim.Native.Nat.{◌+◌, ◌-◌, ◌*◌, ◌<◌, ◌≤◌}
-use mathlib.Core.Path.{◌≡◌, refl}
-use native.Mathlib.Omega.{arith}
-use lib.ListN.{get_or, take, drop}
+use Prim.Native.Nat.{◌-◌, ◌*◌, ◌≤◌}
+use mathlib.Core.Path.{◌≡◌}
+use lib.ListN.{take, drop}
 use Rattle.digits.specs.Digit.{byte_sum}
-use Rattle.pairwriter.proofs.SpanLaws.{next_sum}
 use Rattle.pairwriter.proofs.byte_sum.Given as goal
 
 abbrev pub invariant-loop-i : goal.invariant-loop-i

@@ -1,13 +1,13 @@
 -- `put_pairs` meets its contract. The loop's invariant: the digits of the bytes so far were put.
-use Prim.Native.Nat.{◌+◌, ◌-◌, ◌*◌, ◌≤◌}
+use Prim.Native.Nat.{◌+◌, ◌*◌}
 use mathlib.Core.Path.{◌≡◌, refl}
 use mathlib.Core.List.{[], ◌∷◌}
 use native.Mathlib.Omega.{arith}
-use lib.ListN.{get_or, take, drop}
+use lib.ListN.{get_or}
 use lib.Seq.{paste-zero}
 use Rattle.digits.specs.Digit.{hex}
 use Rattle.digits.proofs.Laws.{hex_long}
-use Rattle.fields.proofs.Laws.{Put, put_length, put_then}
+use Rattle.fields.proofs.Laws.{put_length, put_then}
 use Rattle.pairwriter.proofs.SpanLaws.{next_digits}
 use Rattle.pairwriter.proofs.put_pairs.Goals as goal
 

@@ -1,14 +1,8 @@
 -- `put_pairs` meets its contract. The loop's invariant: the digits of the bytes so far were put.
-use Prim.Native.Nat.{◌+◌, ◌-◌, ◌*◌, ◌≤◌}
-use mathlib.Core.Path.{◌≡◌, refl}
-use mathlib.Core.List.{[], ◌∷◌}
-use native.Mathlib.Omega.{arith}
-use lib.ListN.{get_or, take, drop}
-use lib.Seq.{paste-zero}
+use Prim.Native.Nat.{◌-◌, ◌*◌, ◌≤◌}
+use lib.ListN.{take, drop}
 use Rattle.digits.specs.Digit.{hex}
-use Rattle.digits.proofs.Laws.{hex_long}
-use Rattle.fields.proofs.Laws.{Put, put_length, put_then}
-use Rattle.pairwriter.proofs.SpanLaws.{next_digits}
+use Rattle.fields.proofs.Laws.{Put}
 use Rattle.pairwriter.proofs.put_pairs.Given as goal
 
 abbrev pub invariant-loop-i : goal.invariant-loop-i

@@ -1,15 +1,14 @@
 -- `pairs::decode` meets its contract. The loop's invariant: the buffer with the first i bytes of the pairs put in.
 use Rattle.digits.proofs.PairLaws.{length_pairs, get_or_pairs}
 use Rattle.digits.specs.Pairs.{IsPair, pairs_at}
-use lib.Seq.{paste, paste-zero, paste-suc, length-paste}
+use lib.Seq.{paste-zero, paste-suc}
 use lib.ListN.{length, get_or}
 use borrow.Author.Rules.{rules}
 use native.Mathlib.Omega.{arith}
 use native.Mathlib.Numerals.{add-one}
 use native.Mathlib.Nat.{mod-eq_of_lt}
-use mathlib.Core.List.{List}
-use mathlib.Core.Path.{◌≡◌, sym, ap, ◌∙◌}
-use Prim.Native.Nat.{ℕ, ◌+◌, ◌-◌, ◌*◌, ◌%◌, ◌≤◌}
+use mathlib.Core.Path.{◌≡◌, sym, ◌∙◌}
+use Prim.Native.Nat.{◌+◌, ◌*◌, ◌%◌}
 use Rattle.digits.proofs.pairs.decode.Goals as goal
 
 pub loop-i-init : goal.loop-i-init

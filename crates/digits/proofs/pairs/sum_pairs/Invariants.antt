@@ -1,11 +1,8 @@
 -- `pairs::sum_pairs` meets its contract. The loop's invariant: so far all are pairs, and the sum is theirs.
-use Rattle.digits.proofs.PairLaws.{total_pairs, are_more}
-use Rattle.digits.specs.Pairs.{IsPair, ArePairs, pair_at, pairs_at, Summed}
+use Rattle.digits.specs.Pairs.{ArePairs, pairs_at}
 use Rattle.digits.specs.Digit.{byte_sum}
-use borrow.Author.Rules.{rules}
-use native.Mathlib.Omega.{arith}
-use mathlib.Core.Path.{◌≡◌, refl}
-use Prim.Native.Nat.{◌+◌, ◌-◌, ◌*◌, ◌≤◌}
+use mathlib.Core.Path.{◌≡◌}
+use Prim.Native.Nat.{◌-◌, ◌*◌, ◌≤◌}
 use Rattle.digits.proofs.pairs.sum_pairs.Given as goal
 
 abbrev pub invariant-loop-i : goal.invariant-loop-i

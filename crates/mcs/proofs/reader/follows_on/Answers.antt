@@ -4,7 +4,6 @@ use mathlib.Core.Path.{◌≡◌, refl}
 use Rattle.base.specs.Question.{ask}
 use Rattle.mcs.specs.Reading.{follows}
 use borrow.Author.Tests.{eq-eqb, ne_eqb}
-use borrow.Author.Rules.{rules}
 use Rattle.mcs.proofs.reader.follows_on.Goals as goal
 
 pub returns-then-start-next : goal.returns-then-start-next

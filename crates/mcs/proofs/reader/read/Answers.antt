@@ -1,5 +1,4 @@
 -- `reader::read` meets its contract: it is `read_by` with the table.
-use borrow.Author.Rules.{rules}
 use Rattle.base.proofs.Laws.{gives}
 use Rattle.mcs.specs.Reader.{read_numbers}
 use Rattle.mcs.proofs.reader.read.Goals as goal

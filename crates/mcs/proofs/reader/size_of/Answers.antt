@@ -4,12 +4,10 @@ use Rattle.mcs.proofs.ReadingLaws.{Reached, at_none, pass_refused, pass_upper, p
 use Rattle.mcs.specs.Passes.{size_of}
 use Rattle.mcs.specs.Reading.{Holds, read_text}
 use lib.ListN.{length}
-use borrow.Author.Tests.{not-true, not-false}
-use borrow.Author.Rules.{rules}
 use native.Mathlib.Omega.{arith}
 use mathlib.Core.List.{List, []}
 use mathlib.Core.Path.{◌≡◌, refl, sym, ◌∙◌}
-use Prim.Native.Nat.{ℕ, ◌+◌, ◌-◌, ◌*◌, ◌<◌, ◌≤◌}
+use Prim.Native.Nat.{ℕ, ◌+◌, ◌*◌, ◌<◌, ◌≤◌}
 use Rattle.mcs.proofs.reader.size_of.Goals as goal
 use Rattle.mcs.proofs.reader.size_of.Goals.{In-Data, In-ExtendedLinearAddress}
 

@@ -5,7 +5,6 @@ use lib.ListN.{get_or, get_or-eq_default}
 use borrow.Author.Tests.{eq-eqb, ne_eqb}
 use native.Mathlib.Omega.{arith}
 use Prim.Native.Nat.{◌+◌}
-use borrow.Author.Rules.{rules}
 use Rattle.mcsline.proofs.line.ending.Goals as goal
 
 pub returns-then-text-at-eq-LF : goal.returns-then-text-at-eq-LF

@@ -1,7 +1,6 @@
 -- `line::extended_address_line` meets its contract.
 use mathlib.Core.Path.{refl}
 use borrow.Author.Tests.{eq-eqb, ne_eqb}
-use borrow.Author.Rules.{rules}
 use Rattle.base.specs.Question.{ask}
 use Rattle.mcsline.proofs.line.extended_address_line.Goals as goal
 

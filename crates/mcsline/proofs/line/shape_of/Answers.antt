@@ -8,7 +8,6 @@ use lib.ListN.{length}
 use native.Mathlib.Omega.{arith}
 use mathlib.Core.Path.{◌≡◌}
 use Prim.Native.Nat.{◌+◌, ◌≤◌}
-use borrow.Author.Rules.{rules}
 use Rattle.mcsline.proofs.line.shape_of.Goals as goal
 
 pub returns-then-rest-lt12 : goal.returns-then-rest-lt12

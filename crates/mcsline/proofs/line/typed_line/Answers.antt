@@ -1,7 +1,6 @@
 -- `line::typed_line` meets its contract: each return by the case of the definition that its type names.
 use Rattle.mcsline.proofs.TypeLaws.{data_typed, end_typed, extended_typed, other_typed}
 use mathlib.Core.Path.{sym, ◌∙◌}
-use borrow.Author.Rules.{rules}
 use Rattle.mcsline.proofs.line.typed_line.Goals as goal
 
 pub returns-then-kind-eq0 : goal.returns-then-kind-eq0
