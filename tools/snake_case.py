@@ -143,7 +143,7 @@ def main():
                 file.write(new)
     for path, text in list(texts(".rt")):
         new = strings_apart(text, lambda t: turn(t, chosen, camel))
-        new = re.sub(r"ghost use [^;]*;", lambda m: turn(m[0], chosen), new)
+        new = re.sub(r"ghost use [^;]*;", lambda m: turn(m[0], chosen, lambda w: w not in MET), new)
         if new != text:
             with open(path, "w", encoding="utf-8") as file:
                 file.write(new)

@@ -1,18 +1,18 @@
 -- MCS text that reads is told as text: its characters are a colon, digits and line ends.
 use Prim.Native.Nat.{ℕ, zero, suc, ◌/◌, ◌%◌}
 use mathlib.Core.Path.{◌≡◌, refl, ap, ap₂, ◌∙◌}
-use mathlib.Core.Bool.{Bool, true, false, ◌&&◌}
-use mathlib.Core.List.{List, [], ◌∷◌, ◌++◌}
+use mathlib.Core.Bool.{true, ◌&&◌}
+use mathlib.Core.List.{List, [], ◌∷◌}
 use lib.Dec.{leb}
 use lib.ListN.{get_or}
 use Rattle.base.specs.Question.{ask}
 use Rattle.base.proofs.Laws.{both_true}
 use Rattle.framing.specs.Search.{begins_with}
 use Rattle.digits.specs.Digit.{digits, hex}
-use Rattle.mcsline.specs.Record.{Ending, Lf, CrLf, ending_text, line_text, Record, pairs_of, Line, Row, record_text}
+use Rattle.mcsline.specs.Record.{Ending, Lf, CrLf, ending_text, line_text, pairs_of, Line, Row, record_text}
 use Rattle.mcs.specs.Text.{file_text, FileFrom, FileOf}
 use Rattle.mcs.proofs.Laws.{round_trip}
-use Rattle.imagefile.specs.Imagefile.{bit_start, is_text, plain_form, form_answer}
+use Rattle.imagefile.specs.Imagefile.{is_text, plain_form, form_answer}
 use Rattle.imagefile.proofs.Laws.{text_parts}
 use Rattle.filetheorems.specs.Theorems.{TextTold}
 use Rattle.filetheorems.specs.Types.{FormText}

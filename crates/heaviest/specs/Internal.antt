@@ -1,5 +1,5 @@
 -- What only contracts of functions that are no public calls cite.
-use Rattle.std.specs.Prelude.{ℕ, List, [], ◌∷◌}
+use Rattle.std.specs.Prelude.{ℕ, List, ◌∷◌}
 use Rattle.framing.specs.Words.{bytes_of_words}
 use Rattle.heaviest.specs.Heaviest.{heaviest_headers}
 

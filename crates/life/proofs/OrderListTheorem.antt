@@ -1,5 +1,5 @@
 -- DEMAND 2: a run gives exactly the orders of the list, in order.
-use Prim.Native.Nat.{ℕ, ◌-◌, ◌<◌}
+use Prim.Native.Nat.{ℕ, ◌<◌}
 use mathlib.Core.Path.{refl, sym, ap, subst, ◌∙◌}
 use lib.ListN.{length}
 use Rattle.kind.specs.Kind.{Kind}

@@ -1,17 +1,11 @@
 -- `bench::mixes_with_erased` meets its contract. The loop's invariant: what is left to look at decides.
-use Prim.Native.Nat.{ℕ, suc, ◌-◌, ◌<◌, ◌≤◌}
-use mathlib.Core.Path.{◌≡◌, refl, sym, ap, ◌∙◌}
-use mathlib.Core.Bool.{Bool, true, false, ◌&&◌}
+use Prim.Native.Nat.{ℕ, ◌-◌, ◌≤◌}
+use mathlib.Core.Path.{◌≡◌}
+use mathlib.Core.Bool.{Bool}
 use mathlib.Core.List.{List}
-use native.Mathlib.Omega.{arith}
-use native.Mathlib.Numerals.{add-one}
-use borrow.Author.Tests.{eq-eqb, ne_eqb}
-use lib.ListN.{length, get_or, drop}
-use lib.Seq.{drop-length}
+use lib.ListN.{length, drop}
 use Rattle.flash.specs.Flash.{erased}
-use Rattle.flash.proofs.Laws.{erased_length, erased_at}
 use Rattle.bench.specs.Bench.{mixture}
-use Rattle.bench.proofs.MixtureLaws.{mixes, mixture_from}
 use Rattle.bench.proofs.mixes_with_erased.Given as goal
 
 -- what is left to look at from a place on

@@ -7,7 +7,6 @@ use Rattle.builder.specs.Builder.{build_numbers, golden_answer, build_answer, ou
 use Rattle.builder.specs.Types.{BuildAnswer, BuildRefused}
 use Rattle.kind.proofs.Laws.{on_layout, by_layout}
 use Rattle.builder.proofs.BuiltLaws.{build_loads}
-use borrow.Author.Rules.{rules}
 use Rattle.builder.proofs.build.Goals as goal
 
 pub build_allowed-requires : goal.build_allowed-requires

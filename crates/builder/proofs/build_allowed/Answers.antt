@@ -8,7 +8,6 @@ use Rattle.kind.specs.Layout.{golden_at}
 use Rattle.bootreader.proofs.Laws.{accepted_length}
 use Rattle.kind.proofs.Laws.{update_place_range, allowed_asks}
 use Rattle.builder.proofs.BuiltLaws.{golden_refused, golden_small, golden_built}
-use borrow.Author.Rules.{rules}
 use Rattle.builder.proofs.build_allowed.Goals as goal
 
 pub overflow_sub-layout : goal.overflow_sub-layout

@@ -8,7 +8,6 @@ use Rattle.kind.specs.Layout.{segment, golden_at}
 use Rattle.flash.specs.Flash.{erased, overwrite_in_range}
 use Rattle.kind.specs.Spi.{spi_warm_boot}
 use Rattle.builder.proofs.BuiltLaws.{built_written}
-use borrow.Author.Rules.{rules}
 use Rattle.builder.proofs.write_chip.Goals as goal
 
 pub returns : goal.returns

@@ -2,7 +2,6 @@
 use Prim.Native.Nat.{◌%◌}
 use mathlib.Core.Path.{◌≡◌, refl}
 use borrow.Author.Tests.{eq-eqb, ne_eqb, le-leb, lt-leb}
-use borrow.Author.Rules.{rules}
 use Rattle.base.specs.Question.{ask}
 use Rattle.canonical.specs.Pass.{data_fits}
 use Rattle.canonicaltest.proofs.data_fits.Goals as goal

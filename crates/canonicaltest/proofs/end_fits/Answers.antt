@@ -1,6 +1,5 @@
 -- `end_fits` meets its contract.
 use mathlib.Core.Path.{refl}
-use borrow.Author.Rules.{rules}
 use borrow.Author.Tests.{eq-eqb, ne_eqb}
 use Rattle.base.specs.Question.{ask}
 use Rattle.canonical.specs.Pass.{end_fits}

@@ -1,6 +1,5 @@
 -- `is_canonical` meets its contract: the pass is the test.
 use mathlib.Core.Path.{◌∙◌}
-use borrow.Author.Rules.{rules}
 use Rattle.canonical.proofs.Laws.{pass_exact}
 use Rattle.canonicaltest.proofs.is_canonical.Goals as goal
 

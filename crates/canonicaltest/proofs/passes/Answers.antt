@@ -1,12 +1,8 @@
 -- `passes` meets its contract. The loop's invariant: the pass from here on is that over the whole text, and no more data bytes came than characters.
-use Prim.Native.Nat.{◌-◌, ◌≤◌}
-use mathlib.Core.Path.{◌≡◌, refl, ◌∙◌}
+use mathlib.Core.Path.{refl, ◌∙◌}
 use native.Mathlib.Omega.{arith}
-use borrow.Author.Rules.{rules}
-use lib.ListN.{length}
 use Rattle.base.specs.Question.{ask}
-use Rattle.canonical.specs.Pass.{text_passes}
-use Rattle.canonicaltest.proofs.PassLaws.{pass_at, pass_none, Told, pass_refused, data_long, pass_data, upper_long, pass_upper, end_long, pass_more, pass_end}
+use Rattle.canonicaltest.proofs.PassLaws.{pass_none, Told, pass_refused, data_long, pass_data, upper_long, pass_upper, end_long, pass_more, pass_end}
 use Rattle.canonicaltest.proofs.passes.Goals as goal
 use Rattle.canonicaltest.proofs.passes.Goals.{After-parse-read}
 

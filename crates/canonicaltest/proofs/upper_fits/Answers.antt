@@ -1,7 +1,6 @@
 -- `upper_fits` meets its contract.
 use mathlib.Core.Path.{refl}
 use borrow.Author.Tests.{eq-eqb, ne_eqb}
-use borrow.Author.Rules.{rules}
 use Rattle.base.specs.Question.{ask}
 use Rattle.canonical.specs.Pass.{upper_fits}
 use Rattle.canonicaltest.proofs.upper_fits.Goals as goal

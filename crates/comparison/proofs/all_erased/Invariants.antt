@@ -1,15 +1,8 @@
 -- `comparison::all_erased` meets its contract. The loop's invariant: while `all` is true, the first i bytes are FF.
 use Prim.Native.Nat.{ℕ, ◌-◌, ◌<◌, ◌≤◌}
-use mathlib.Core.Path.{◌≡◌, sym, ◌∙◌}
+use mathlib.Core.Path.{◌≡◌}
 use mathlib.Core.Bool.{true}
-use mathlib.Core.Logic.{⊎_elim}
-use native.Mathlib.Omega.{arith}
-use borrow.Author.Count.{below_more}
-use lib.ListN.{length, get_or, get_or-replicate}
-use lib.Seq.{ext_get_or}
-use Rattle.base.proofs.Laws.{false_true}
-use Rattle.flash.specs.Flash.{erased}
-use Rattle.flash.proofs.Laws.{erased_length}
+use lib.ListN.{length, get_or}
 use Rattle.comparison.proofs.all_erased.Given as goal
 
 abbrev pub invariant-loop-i : goal.invariant-loop-i

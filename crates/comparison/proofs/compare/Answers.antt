@@ -1,6 +1,5 @@
 -- `comparison::compare` meets its contract: bytes that agree differ nowhere.
 use mathlib.Core.Path.{sym, ap, ◌∙◌}
-use borrow.Author.Rules.{rules}
 use Rattle.comparison.specs.Comparison.{differs}
 use Rattle.comparison.specs.Internal.{comparison}
 use Rattle.comparison.proofs.ComparisonLaws.{differs_none}

@@ -1,8 +1,8 @@
 -- `comparison::first_difference` meets its contract. The loop's invariant: the first i bytes agree, so what differs is among the rest.
-use Prim.Native.Nat.{ℕ, ◌+◌, ◌-◌, ◌≤◌}
+use Prim.Native.Nat.{ℕ, ◌+◌}
 use mathlib.Core.Path.{◌≡◌, sym, ap, ◌∙◌}
 use native.Mathlib.Omega.{arith}
-use lib.ListN.{length, get_or, drop, get_or-eq_default}
+use lib.ListN.{length, get_or, get_or-eq_default}
 use Rattle.flash.proofs.Laws.{get_d_any}
 use Rattle.comparison.specs.Comparison.{padded, differs}
 use Rattle.comparison.specs.Internal.{comparison}

@@ -1,9 +1,9 @@
 -- `comparison::padded_page` meets its contract. The loop's invariant: a page of FF with the first i bytes stored at its front.
-use Prim.Native.Nat.{ℕ, ◌-◌, ◌≤◌}
+use Prim.Native.Nat.{ℕ}
 use mathlib.Core.Path.{◌≡◌, refl, ap, ◌∙◌}
-use mathlib.Core.List.{List, ◌++◌}
+use mathlib.Core.List.{List}
 use native.Mathlib.Omega.{arith}
-use lib.ListN.{length, get_or, set, take, drop}
+use lib.ListN.{length, get_or, set}
 use Rattle.kind.specs.Layout.{page}
 use Rattle.flash.specs.Flash.{erased}
 use Rattle.flash.proofs.Laws.{erased_length}

@@ -1,13 +1,10 @@
 -- `comparison::padded_page` meets its contract. The loop's invariant: a page of FF with the first i bytes stored at its front.
-use Prim.Native.Nat.{ℕ, ◌-◌, ◌≤◌}
-use mathlib.Core.Path.{◌≡◌, refl, ap, ◌∙◌}
-use mathlib.Core.List.{List, ◌++◌}
-use native.Mathlib.Omega.{arith}
-use lib.ListN.{length, get_or, set, take, drop}
+use Prim.Native.Nat.{◌-◌, ◌≤◌}
+use mathlib.Core.Path.{◌≡◌}
+use mathlib.Core.List.{◌++◌}
+use lib.ListN.{length, take, drop}
 use Rattle.kind.specs.Layout.{page}
 use Rattle.flash.specs.Flash.{erased}
-use Rattle.flash.proofs.Laws.{erased_length}
-use Rattle.comparison.proofs.ComparisonLaws.{store_next, filled_all}
 use Rattle.comparison.proofs.padded_page.Given as goal
 
 abbrev pub invariant-loop-i : goal.invariant-loop-i

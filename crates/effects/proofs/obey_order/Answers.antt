@@ -15,7 +15,6 @@ use Rattle.effects.specs.Types.{State, Program}
 use Rattle.comparison.proofs.Laws.{padded_length}
 use Rattle.updater.proofs.Laws.{fits_says, fits_own}
 use Rattle.effects.proofs.ProgressLaws.{done_by, program_count, current_most, current_done}
-use borrow.Author.Rules.{rules}
 use Rattle.effects.proofs.obey_order.Goals as goal
 use Rattle.effects.proofs.obey_order.Goals.{After-current_bytes-bytes, After-current_operation-operation}
 

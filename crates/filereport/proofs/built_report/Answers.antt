@@ -8,7 +8,6 @@ use Rattle.report.specs.Refusal.{written}
 use Rattle.base.specs.Output.{front_filled}
 use Rattle.report.specs.Boot.{chip_answer, chip_output}
 use Rattle.filereport.proofs.FileLaws.{shows_built, shows_refused}
-use borrow.Author.Rules.{rules}
 use Rattle.filereport.proofs.built_report.Goals as goal
 
 pub returns-in-Built : goal.returns-in-Built

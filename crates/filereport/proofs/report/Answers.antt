@@ -1,19 +1,16 @@
 -- `filereport::report` meets its contract.
-use Prim.Native.Nat.{ℕ, ◌≤◌}
+use Prim.Native.Nat.{ℕ}
 use mathlib.Core.Path.{◌≡◌, sym, ap, ◌∙◌}
 use mathlib.Core.List.{List}
 use native.Mathlib.Omega.{arith}
 use lib.ListN.{length, take}
 use lib.Seq.{length-take-le}
 use Rattle.base.proofs.Laws.{gives}
-use Rattle.mcs.specs.Reading.{Holds, read_text}
-use Rattle.mcs.specs.Reader.{read_output}
 use Rattle.mcs.proofs.Laws.{read_says, refused_says}
 use Rattle.filereport.specs.Filereport.{built_report}
 use Rattle.report.specs.Refusal.{report_numbers, written}
 use Rattle.base.specs.Output.{front_filled}
 use Rattle.filereport.proofs.FileLaws.{reports_long, reports_image, reports_refused}
-use borrow.Author.Rules.{rules}
 use Rattle.filereport.proofs.report.Goals as goal
 
 pub returns-then-text-gt-LONGEST : goal.returns-then-text-gt-LONGEST

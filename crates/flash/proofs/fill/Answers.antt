@@ -1,13 +1,12 @@
 -- `flash::fill` meets its contract. The loop's invariant: the chip with the first i bytes of the span filled.
-use Prim.Native.Nat.{ℕ, ◌+◌, ◌-◌, ◌≤◌}
+use Prim.Native.Nat.{ℕ, ◌+◌, ◌≤◌}
 use mathlib.Core.Path.{◌≡◌, refl, sym, ap, ◌∙◌}
 use mathlib.Core.List.{List}
 use native.Mathlib.Omega.{arith}
 use native.Mathlib.Numerals.{add-one}
-use borrow.Author.Rules.{rules}
-use borrow.Author.Tests.{not-true, not-false, leb-true}
+use borrow.Author.Tests.{leb-true}
 use lib.ListN.{length, get_or, replicate, length-replicate, get_or-replicate}
-use lib.Seq.{paste, paste-zero, paste-suc, length-paste}
+use lib.Seq.{paste-zero, paste-suc, length-paste}
 use Rattle.base.proofs.Laws.{gives}
 use Rattle.base.specs.Question.{ask}
 use Rattle.flash.specs.Flash.{flash_numbers, flash_answer, overwrite_in_range}

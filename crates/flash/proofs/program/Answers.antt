@@ -1,12 +1,11 @@
 -- `flash::program` meets its contract. The loop's invariant: the chip with the first i bytes of the span programmed.
-use Prim.Native.Nat.{ℕ, ◌+◌, ◌-◌, ◌<◌, ◌≤◌}
+use Prim.Native.Nat.{ℕ, ◌+◌, ◌<◌, ◌≤◌}
 use mathlib.Core.Path.{◌≡◌, refl, sym, ap, ◌∙◌}
 use mathlib.Core.List.{List}
 use native.Mathlib.Omega.{arith}
 use native.Mathlib.Nat.{add-zero}
 use native.Mathlib.Numerals.{add-one}
-use borrow.Author.Rules.{rules}
-use borrow.Author.Tests.{not-true, not-false, leb-true}
+use borrow.Author.Tests.{leb-true}
 use lib.Bits.{bit_and}
 use lib.ListN.{length, get_or, set}
 use lib.Seq.{paste, paste-zero, paste-suc, length-paste, drop-paste, get_or-drop}

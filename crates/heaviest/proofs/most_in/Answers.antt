@@ -1,7 +1,6 @@
 -- `most_in` meets its contract.
 use mathlib.Core.Path.{sym}
 use native.Mathlib.Omega.{arith}
-use borrow.Author.Rules.{rules}
 use Rattle.heaviest.proofs.ImageLaws.{most_few, most_many}
 use Rattle.heaviest.proofs.most_in.Goals as goal
 

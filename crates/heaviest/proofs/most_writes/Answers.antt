@@ -1,8 +1,6 @@
 -- `most_writes` meets its contract.
 use mathlib.Core.Path.{refl, sym, ap, ◌∙◌}
 use native.Mathlib.Omega.{arith}
-use borrow.Author.Rules.{rules}
-use borrow.Author.Tests.{not-true, not-false}
 use Rattle.base.specs.Question.{ask}
 use Rattle.base.proofs.Laws.{gives}
 use Rattle.heaviest.specs.Heaviest.{most_numbers, most_answer}

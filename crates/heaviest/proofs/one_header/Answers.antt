@@ -1,6 +1,5 @@
 -- `one_header` meets its contract.
 use mathlib.Core.Path.{refl}
-use borrow.Author.Rules.{rules}
 use Rattle.framing.specs.Words.{bytes_of_words}
 use Rattle.heaviest.proofs.one_header.Goals as goal
 

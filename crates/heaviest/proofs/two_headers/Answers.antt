@@ -1,6 +1,5 @@
 -- `two_headers` meets its contract.
 use mathlib.Core.Path.{refl}
-use borrow.Author.Rules.{rules}
 use Rattle.framing.specs.Words.{bytes_of_words}
 use Rattle.heaviest.proofs.two_headers.Goals as goal
 

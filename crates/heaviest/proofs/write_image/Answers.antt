@@ -1,7 +1,6 @@
 -- `write_image` meets its contract.
 use mathlib.Core.Path.{sym, ◌∙◌}
 use native.Mathlib.Omega.{arith}
-use borrow.Author.Rules.{rules}
 use lib.ListN.{length}
 use Rattle.base.proofs.Laws.{gives}
 use Rattle.heaviest.specs.Heaviest.{most_numbers}

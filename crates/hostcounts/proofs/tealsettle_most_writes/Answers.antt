@@ -1,6 +1,5 @@
 -- `tealsettle_most_writes` meets its contract.
 use mathlib.Core.Path.{ap, ◌∙◌}
-use borrow.Author.Rules.{rules}
 use Rattle.results.specs.Most.{most_result}
 use Rattle.hostcounts.proofs.tealsettle_most_writes.Goals as goal
 

@@ -3,7 +3,6 @@ use Rattle.runresults.specs.Counts.{total_result}
 use Rattle.base.specs.Question.{ask}
 use Rattle.starts.specs.Starts.{total_answer}
 use mathlib.Core.Path.{sym, ap, ◌∙◌}
-use borrow.Author.Rules.{rules}
 use Rattle.hostcounts.proofs.tealsettle_total.Goals as goal
 use Rattle.hostcounts.proofs.tealsettle_total.Goals.{then-has_number, else-has_number}
 

@@ -1,9 +1,7 @@
 -- `begins_as_bit` meets its contract. The loop's invariant: the first i bytes are those that a BIT file begins with.
-use Prim.Native.Nat.{ℕ, ◌-◌, ◌<◌, ◌≤◌}
-use mathlib.Core.Path.{◌≡◌, sym}
+use mathlib.Core.Path.{sym}
 use native.Mathlib.Omega.{arith}
 use borrow.Author.Count.{below_more}
-use lib.ListN.{get_or}
 use Rattle.framing.proofs.Laws.{starts_all, starts_differs, starts_short}
 use Rattle.imagefile.specs.Imagefile.{bit_start}
 use Rattle.imagefile.proofs.begins_as_bit.Goals as goal

@@ -1,6 +1,5 @@
 -- `content_length` meets its contract.
 use mathlib.Core.Path.{refl}
-use borrow.Author.Rules.{rules}
 use lib.Seq.{get_or-drop}
 use Rattle.imagefile.specs.Imagefile.{content_length}
 use Rattle.imagefile.proofs.content_length.Goals as goal

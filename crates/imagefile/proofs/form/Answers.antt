@@ -1,6 +1,5 @@
 -- `form` meets its contract.
 use mathlib.Core.Path.{refl, sym, ◌∙◌}
-use borrow.Author.Rules.{rules}
 use Rattle.base.specs.Question.{ask}
 use Rattle.base.proofs.Laws.{gives}
 use Rattle.framing.proofs.Laws.{starts_length}

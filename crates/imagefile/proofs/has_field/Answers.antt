@@ -1,7 +1,6 @@
 -- `has_field` meets its contract.
 use Prim.Native.Nat.{◌+◌, ◌-◌}
 use mathlib.Core.Path.{sym, ap, ◌∙◌}
-use borrow.Author.Rules.{rules}
 use lib.Dec.{leb}
 use lib.ListN.{length, drop}
 use Rattle.base.proofs.Laws.{fits_after}

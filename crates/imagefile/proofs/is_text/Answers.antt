@@ -1,12 +1,9 @@
 -- `is_text` meets its contract. The loop's invariant: the bytes from here on are text where all of them are.
-use Prim.Native.Nat.{◌+◌, ◌-◌, ◌≤◌}
+use Prim.Native.Nat.{◌+◌, ◌-◌}
 use mathlib.Core.Path.{◌≡◌, refl, sym, ◌∙◌}
 use native.Mathlib.Omega.{arith}
-use borrow.Author.Rules.{rules}
-use borrow.Author.Tests.{not-false, not-true}
 use lib.ListN.{length, drop, length-drop}
 use lib.Seq.{take_all}
-use Rattle.imagefile.specs.Imagefile.{is_text}
 use Rattle.imagefile.proofs.TextLaws.{text_after_block, no_text_block}
 use Rattle.imagefile.proofs.is_text.Goals as goal
 

@@ -1,12 +1,11 @@
 -- `read_fields` meets its contract. The loop's invariant: the fields from here, from the i-th letter on, give what those from the first give.
-use Prim.Native.Nat.{◌+◌, ◌-◌, ◌≤◌}
+use Prim.Native.Nat.{◌+◌, ◌≤◌}
 use mathlib.Core.Path.{◌≡◌, refl, sym, ◌∙◌}
 use mathlib.Core.Bool.{true}
 use native.Mathlib.Omega.{arith}
-use borrow.Author.Tests.{not-true, not-false}
 use lib.ListN.{length, get_or, drop, length-drop}
 use lib.Seq.{drop-drop}
-use Rattle.imagefile.specs.Imagefile.{letters, content_length, has_field, fields}
+use Rattle.imagefile.specs.Imagefile.{letters, content_length, has_field}
 use Rattle.imagefile.proofs.FieldLaws.{field_fits, fields_stop, fields_on, fields_done}
 use Rattle.imagefile.proofs.read_fields.Goals as goal
 use Rattle.imagefile.proofs.read_fields.Goals.{After-content_length, Else-not-has_field}

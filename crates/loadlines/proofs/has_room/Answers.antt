@@ -5,7 +5,6 @@ use mathlib.Core.Bool.{Bool, true, false}
 use native.Mathlib.Omega.{arith}
 use borrow.Author.Tests.{leb-true, leb-false, le-leb, lt-leb}
 use lib.Dec.{leb}
-use borrow.Author.Rules.{rules}
 use Rattle.loadlines.proofs.has_room.Goals as goal
 
 -- As many writes as what is left has lines: all of it fits.

@@ -1,7 +1,6 @@
 -- `loadlines::put_loaded` meets its contract.
 use Rattle.fields.specs.Fields.{ascii}
 use Rattle.reportlines.specs.Reportlines.{loaded_line}
-use borrow.Author.Rules.{rules}
 use Rattle.loadlines.proofs.put_loaded.Goals as goal
 
 pub returns-then-jumped : goal.returns-then-jumped

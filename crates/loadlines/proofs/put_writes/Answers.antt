@@ -1,15 +1,12 @@
 -- `loadlines::put_writes` meets its contract. The loop's invariant: the lines that are left give the same as all of them gave at the start.
-use Rattle.loadlines.proofs.ListLaws.{Going, going_start, going_room, going_on, going_done, step_wrote, step_done}
-use Prim.Native.Nat.{ℕ}
+use Rattle.loadlines.proofs.ListLaws.{going_start, going_room, going_on, going_done, step_wrote, step_done}
 use mathlib.Core.Path.{◌≡◌}
-use mathlib.Core.List.{List, ◌∷◌}
+use mathlib.Core.List.{◌∷◌}
 use Rattle.packets.specs.declared.trace.Write.{Write}
 use Rattle.writes.specs.declared.cursor.Cursor.{Cursor}
 use Rattle.writes.specs.declared.cursor.CursorStep.TheVariants.{Wrote}
 use Rattle.writes.specs.Cursor.{remaining_writes, writes_after_step}
 use Rattle.writes.proofs.Laws.{halves_remaining}
-use lib.ListN.{length}
-use borrow.Author.Rules.{rules}
 use native.Mathlib.Omega.{arith}
 use Rattle.loadlines.proofs.put_writes.Goals as goal
 use Rattle.loadlines.proofs.put_writes.Goals.{After-step_at-step}

@@ -1,7 +1,6 @@
 -- `shorter_length` meets its contract.
 use mathlib.Core.Path.{sym, ap}
 use native.Mathlib.Omega.{arith}
-use borrow.Author.Rules.{rules}
 use Rattle.canonical.specs.Canonical.{shorter_length}
 use Rattle.canonical.proofs.Laws.{shorter}
 use Rattle.mcswriter.proofs.shorter_length.Goals as goal

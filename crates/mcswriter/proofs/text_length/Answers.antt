@@ -1,6 +1,5 @@
 -- `text_length` meets its contract.
 use mathlib.Core.Path.{refl, sym, ap, ◌∙◌}
-use borrow.Author.Rules.{rules}
 use Rattle.base.specs.Question.{ask}
 use Rattle.base.proofs.Laws.{gives}
 use Rattle.kind.specs.Layout.{longest_chip}

@@ -1,7 +1,6 @@
 -- `write` meets its contract.
 use mathlib.Core.Path.{sym, ap, ◌∙◌}
 use native.Mathlib.Omega.{arith}
-use borrow.Author.Rules.{rules}
 use Rattle.base.proofs.Laws.{gives}
 use Rattle.kind.specs.Layout.{longest_chip}
 use Rattle.kind.proofs.Laws.{image_length_range}

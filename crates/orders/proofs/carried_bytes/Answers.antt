@@ -3,7 +3,6 @@ use mathlib.Core.Path.{sym, ◌∙◌}
 use mathlib.Core.Logic.{◌⊎◌, inl, inr}
 use Prim.Native.Nat.{◌<◌, ◌≤◌}
 use native.Mathlib.Omega.{arith}
-use borrow.Author.Rules.{rules}
 use Rattle.orders.proofs.CarriedLaws.{carried_page, carried_on, carried_none}
 use Rattle.orders.proofs.carried_bytes.Goals as goal
 use Rattle.orders.proofs.carried_bytes.Goals.{in_default-via-then-phase-lt3, in_default-via-else-phase-lt3+else-phase-lt5+else-phase-lt7}

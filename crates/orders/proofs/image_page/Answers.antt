@@ -1,5 +1,4 @@
 -- `image_page` meets its contract.
-use borrow.Author.Rules.{rules}
 use Rattle.orders.proofs.OrderLaws.{page_part}
 use Rattle.orders.proofs.image_page.Goals as goal
 

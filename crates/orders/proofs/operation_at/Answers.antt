@@ -1,5 +1,5 @@
 -- `operation_at` meets its contract.
-use Prim.Native.Nat.{◌+◌, ◌-◌, ◌*◌}
+use Prim.Native.Nat.{◌+◌, ◌*◌}
 use mathlib.Core.Path.{◌≡◌, refl, sym, ap, ◌∙◌}
 use native.Mathlib.Omega.{arith}
 use lib.ListN.{length}
@@ -10,7 +10,6 @@ use Rattle.orders.specs.Orders.{page_of, order_of, operation_of}
 use Rattle.orders.specs.Types.{Program, Look}
 use Rattle.orders.proofs.TableLaws.{image_pages, last_phase}
 use Rattle.orders.proofs.OrderLaws.{page_length}
-use borrow.Author.Rules.{rules}
 use Rattle.orders.proofs.operation_at.Goals as goal
 
 pub overflow_sub-image_length : goal.overflow_sub-image_length

@@ -1,8 +1,7 @@
 -- `orders_before` meets its contract: the counts of the phases, added up.
-use Prim.Native.Nat.{◌+◌, ◌-◌, ◌≤◌}
+use Prim.Native.Nat.{◌+◌, ◌≤◌}
 use mathlib.Core.Path.{◌≡◌, refl, ap, ◌∙◌}
 use native.Mathlib.Omega.{arith}
-use borrow.Author.Rules.{rules}
 use Rattle.orders.specs.Table.{count, count_before, total}
 use Rattle.orders.proofs.TableLaws.{before_next, before_total, total_is}
 use Rattle.orders.proofs.orders_before.Goals as goal

@@ -1,10 +1,7 @@
 -- `orders_before` meets its contract: the counts of the phases, added up.
-use Prim.Native.Nat.{◌+◌, ◌-◌, ◌≤◌}
-use mathlib.Core.Path.{◌≡◌, refl, ap, ◌∙◌}
-use native.Mathlib.Omega.{arith}
-use borrow.Author.Rules.{rules}
-use Rattle.orders.specs.Table.{count, count_before, total}
-use Rattle.orders.proofs.TableLaws.{before_next, before_total, total_is}
+use Prim.Native.Nat.{◌-◌, ◌≤◌}
+use mathlib.Core.Path.{◌≡◌}
+use Rattle.orders.specs.Table.{count_before}
 use Rattle.orders.proofs.orders_before.Given as goal
 
 abbrev pub invariant-loop-i : goal.invariant-loop-i

@@ -3,7 +3,6 @@ use mathlib.Core.Path.{refl, sym}
 use Rattle.orders.specs.Table.{by_phase, count}
 use Rattle.orders.proofs.TableLaws.{rounded_up, count_none}
 use native.Mathlib.Omega.{arith}
-use borrow.Author.Rules.{rules}
 use Rattle.orders.proofs.orders_in.Goals as goal
 
 pub returns-in-0 : goal.returns-in-0

@@ -1,6 +1,5 @@
 -- `after_erase` meets its contract.
 use mathlib.Core.Path.{◌∙◌}
-use borrow.Author.Rules.{rules}
 use Rattle.outcomes.proofs.CountLaws.{erase_counted}
 use Rattle.outcomes.proofs.after_erase.Goals as goal
 

@@ -1,6 +1,5 @@
 -- `after_program` meets its contract.
 use mathlib.Core.Path.{◌∙◌}
-use borrow.Author.Rules.{rules}
 use Rattle.outcomes.proofs.CountLaws.{program_counted}
 use Rattle.outcomes.proofs.after_program.Goals as goal
 

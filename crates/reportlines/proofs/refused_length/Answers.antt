@@ -1,7 +1,6 @@
 -- `reportlines::refused_length` meets its contract.
 use Rattle.reportlines.proofs.LineLaws.{length_refused}
 use native.Mathlib.Omega.{arith}
-use borrow.Author.Rules.{rules}
 use Rattle.reportlines.proofs.refused_length.Goals as goal
 
 pub returns : goal.returns

@@ -1,6 +1,5 @@
 -- `progress` meets its contract.
 use mathlib.Core.Path.{sym, ◌∙◌}
-use borrow.Author.Rules.{rules}
 use Rattle.base.proofs.Laws.{gives}
 use Rattle.starts.specs.Starts.{progress_numbers}
 use Rattle.starts.proofs.ProgressLaws.{by_finished, progress_by, runs}

@@ -4,7 +4,6 @@ use Rattle.base.proofs.Laws.{gives}
 use Rattle.starts.specs.Starts.{start_numbers}
 use Rattle.starts.proofs.StartLaws.{start_by}
 use Rattle.kind.proofs.Laws.{on_layout}
-use borrow.Author.Rules.{rules}
 use Rattle.starts.proofs.start.Goals as goal
 
 pub start_allowed-requires : goal.start_allowed-requires

@@ -3,7 +3,6 @@ use mathlib.Core.Path.{sym, ◌∙◌}
 use Rattle.starts.proofs.StartLaws.{start_by}
 use Rattle.bootreader.proofs.Laws.{on_answer}
 use Rattle.kind.proofs.Laws.{on_layout}
-use borrow.Author.Rules.{rules}
 use Rattle.starts.proofs.start_allowed.Goals as goal
 
 pub returns-in-Accepted : goal.returns-in-Accepted

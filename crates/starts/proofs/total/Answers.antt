@@ -4,7 +4,6 @@ use Rattle.base.proofs.Laws.{gives}
 use Rattle.starts.specs.Starts.{total_numbers}
 use Rattle.kind.proofs.Laws.{on_layout}
 use Rattle.starts.proofs.StartLaws.{total_by}
-use borrow.Author.Rules.{rules}
 use Rattle.starts.proofs.total.Goals as goal
 
 pub total_allowed-requires : goal.total_allowed-requires

@@ -1,8 +1,6 @@
 -- `total_allowed` meets its contract.
 use mathlib.Core.Path.{sym, ap, ◌∙◌}
 use native.Mathlib.Omega.{arith}
-use borrow.Author.Tests.{not-true, not-false}
-use borrow.Author.Rules.{rules}
 use Rattle.base.specs.Question.{ask}
 use Rattle.kind.proofs.Laws.{on_layout, chip_length_range, update_length_range, image_length_range, allowed_asks}
 use Rattle.starts.specs.Types.{Total}

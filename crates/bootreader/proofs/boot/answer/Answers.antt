@@ -1,10 +1,8 @@
 -- `boot::answer` meets its contract.
-use borrow.Author.Tests.{not-true, not-false}
 use mathlib.Core.Path.{refl, sym, ◌∙◌}
 use Rattle.base.proofs.Laws.{gives}
 use Rattle.base.specs.Question.{ask}
 use Rattle.bootreader.specs.Boot.{boot_numbers, boot_answer, boot_case}
-use borrow.Author.Rules.{rules}
 use Rattle.bootreader.proofs.boot.answer.Goals as goal
 
 pub returns-then-not-chip_length_allowed : goal.returns-then-not-chip_length_allowed

@@ -1,5 +1,4 @@
 -- `boot::write` meets its contract.
-use borrow.Author.Tests.{not-true, not-false}
 use mathlib.Core.Bool.{false}
 use Rattle.base.proofs.Laws.{gives}
 use Rattle.kind.specs.Spi.{spi}
@@ -11,7 +10,6 @@ use Rattle.configreader.specs.Configreader.{listed}
 use Rattle.packets.specs.Trace.{write_numbers, nth_write}
 use Rattle.bootreader.specs.Boot.{chip_write}
 use Rattle.configreader.proofs.Laws.{Proper, proper}
-use borrow.Author.Rules.{rules}
 use Rattle.bootreader.proofs.boot.write.Goals as goal
 
 pub returns-then-not-chip_length_allowed : goal.returns-then-not-chip_length_allowed

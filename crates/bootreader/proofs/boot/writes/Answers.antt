@@ -1,5 +1,4 @@
 -- `boot::writes` meets its contract.
-use borrow.Author.Tests.{not-true, not-false}
 use mathlib.Core.Bool.{false}
 use Rattle.base.proofs.Laws.{gives}
 use Rattle.writes.specs.Cursor.{listing_numbers}
@@ -10,7 +9,6 @@ use native.Mathlib.Omega.{arith}
 use Rattle.base.specs.Question.{ask}
 use Rattle.bootreader.specs.Boot.{chip_listing, cursor_of}
 use Rattle.configreader.proofs.Laws.{Proper, proper}
-use borrow.Author.Rules.{rules}
 use Rattle.bootreader.proofs.boot.writes.Goals as goal
 
 pub returns-then-not-chip_length_allowed : goal.returns-then-not-chip_length_allowed

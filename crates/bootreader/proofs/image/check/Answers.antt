@@ -1,5 +1,4 @@
 -- `image::check` meets its contract.
-use borrow.Author.Rules.{rules}
 use Rattle.bootreader.specs.Image.{image_answer}
 use Rattle.bootreader.proofs.image.check.Goals as goal
 

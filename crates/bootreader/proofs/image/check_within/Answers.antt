@@ -1,13 +1,10 @@
 -- `image::check_within` meets its contract.
-use borrow.Author.Tests.{not-true, not-false}
 use mathlib.Core.Path.{◌≡◌, refl, sym, ap₂, ◌∙◌}
-use native.Mathlib.Omega.{arith}
 use Rattle.base.proofs.Laws.{gives}
 use Rattle.kind.specs.Spi.{spi}
 use Rattle.bootreader.specs.Types.{Outcome, Loaded, OutcomeIprog, Stuck, ImageRefused}
 use Rattle.base.specs.Question.{ask}
 use Rattle.bootreader.specs.Image.{image_numbers, image_within, alone_case}
-use borrow.Author.Rules.{rules}
 use Rattle.bootreader.proofs.image.check_within.Goals as goal
 
 pub returns-then-not-image_length_allowed : goal.returns-then-not-image_length_allowed

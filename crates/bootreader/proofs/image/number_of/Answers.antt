@@ -1,6 +1,5 @@
 -- `image::number_of` meets its contract.
 use Rattle.bootreader.specs.Image.{alone_case}
-use borrow.Author.Rules.{rules}
 use Rattle.bootreader.proofs.image.number_of.Goals as goal
 
 pub returns-in-Loaded : goal.returns-in-Loaded

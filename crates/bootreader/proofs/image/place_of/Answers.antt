@@ -1,6 +1,5 @@
 -- `image::place_of` meets its contract.
 use Rattle.bootreader.specs.Image.{alone_case}
-use borrow.Author.Rules.{rules}
 use Rattle.bootreader.proofs.image.place_of.Goals as goal
 
 pub returns-in-Loaded : goal.returns-in-Loaded

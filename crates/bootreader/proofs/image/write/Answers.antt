@@ -7,7 +7,6 @@ use Rattle.bootreader.proofs.AnswerLaws.{on_answer, write_by_answer, accepted_li
 use Rattle.packets.specs.Trace.{write_numbers, nth_write}
 use Rattle.bootreader.specs.Image.{longest_image, image_answer}
 use Rattle.bootreader.specs.Types.{Write}
-use borrow.Author.Rules.{rules}
 use Rattle.bootreader.proofs.image.write.Goals as goal
 
 pub overflow_add-sync : goal.overflow_add-sync

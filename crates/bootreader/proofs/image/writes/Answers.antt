@@ -7,7 +7,6 @@ use Rattle.bootreader.proofs.AnswerLaws.{on_answer, by_answer, accepted_sync}
 use Rattle.writes.specs.Cursor.{listing_numbers, cursor_at}
 use Rattle.bootreader.specs.Image.{longest_image, image_answer, image_listing}
 use Rattle.bootreader.specs.Types.{ListingOpen, ListingRefused}
-use borrow.Author.Rules.{rules}
 use Rattle.bootreader.proofs.image.writes.Goals as goal
 
 pub overflow_add-sync : goal.overflow_add-sync

@@ -1,19 +1,9 @@
 -- `switch::read` meets its contract. The loop's invariant: the first i bytes of ON stand there.
 use Prim.Native.Nat.{ℕ, ◌+◌, ◌-◌, ◌<◌, ◌≤◌}
-use mathlib.Core.Path.{◌≡◌, refl, sym, ◌∙◌}
-use mathlib.Core.Bool.{Bool, true, false}
-use native.Mathlib.Omega.{arith}
-use borrow.Author.Rules.{rules}
-use borrow.Author.Tests.{not-true, not-false, ltb-true, ltb-false}
-use lib.Dec.{ltb}
+use mathlib.Core.Path.{◌≡◌}
 use lib.ListN.{get_or}
-use Rattle.base.specs.Question.{ask}
-use Rattle.kind.proofs.Laws.{chip_length_range}
 use Rattle.kind.specs.Layout.{switch_at}
 use Rattle.kind.specs.Spi.{spi_on}
-use Rattle.base.proofs.Laws.{gives}
-use Rattle.chip.specs.Switch.{switch_numbers, switch_case, switch_answer}
-use Rattle.chip.proofs.SwitchLaws.{is_on_law, is_off_law}
 use Rattle.chip.proofs.switch.read.Given as goal
 
 abbrev pub invariant-loop-i : goal.invariant-loop-i

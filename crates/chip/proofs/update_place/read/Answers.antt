@@ -1,15 +1,13 @@
 -- `update_place::read` meets its contract. The loop's invariant: the first i bytes of the warm-boot words stand in segment 1.
-use Prim.Native.Nat.{ℕ, ◌+◌, ◌-◌, ◌<◌, ◌≤◌}
+use Prim.Native.Nat.{◌≤◌}
 use mathlib.Core.Path.{◌≡◌, refl, sym, ap, ◌∙◌}
 use mathlib.Core.Bool.{true}
 use native.Mathlib.Omega.{arith}
 use borrow.Author.Count.{below_more}
-use borrow.Author.Rules.{rules}
-use borrow.Author.Tests.{not-true, not-false}
-use lib.ListN.{length, get_or}
+use lib.ListN.{length}
 use Rattle.base.specs.Question.{ask}
 use Rattle.base.proofs.Laws.{gives}
-use Rattle.kind.specs.Layout.{chip_length_allowed, segment}
+use Rattle.kind.specs.Layout.{chip_length_allowed}
 use Rattle.kind.specs.Spi.{spi_warm_boot}
 use Rattle.kind.proofs.Laws.{chip_length_range}
 use Rattle.chip.specs.UpdatePlace.{named_place, place_numbers, place_answer}

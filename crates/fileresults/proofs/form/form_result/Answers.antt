@@ -2,7 +2,6 @@
 use Rattle.imagefile.specs.Imagefile.{form_numbers}
 use Rattle.fileresults.specs.Form.{form_result}
 use mathlib.Core.Path.{refl}
-use borrow.Author.Rules.{rules}
 use Rattle.fileresults.proofs.form.form_result.Goals as goal
 
 pub returns-in-Text : goal.returns-in-Text

@@ -2,7 +2,6 @@
 use Rattle.writes.specs.Cursor.{listing_numbers}
 use Rattle.fileresults.specs.List.{listing_result}
 use mathlib.Core.Path.{refl}
-use borrow.Author.Rules.{rules}
 use Rattle.fileresults.proofs.list.listing_result.Goals as goal
 
 pub returns-in-Open : goal.returns-in-Open

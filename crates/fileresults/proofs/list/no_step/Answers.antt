@@ -1,7 +1,6 @@
 -- `no_step` meets its contract.
 use Rattle.fileresults.specs.List.{step_fields}
 use mathlib.Core.Path.{refl}
-use borrow.Author.Rules.{rules}
 use Rattle.fileresults.proofs.list.no_step.Goals as goal
 
 pub returns : goal.returns

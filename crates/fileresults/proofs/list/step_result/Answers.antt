@@ -2,7 +2,6 @@
 use Rattle.writes.specs.Cursor.{step_numbers}
 use Rattle.fileresults.specs.List.{step_fields}
 use mathlib.Core.Path.{refl}
-use borrow.Author.Rules.{rules}
 use Rattle.fileresults.proofs.list.step_result.Goals as goal
 
 pub returns-in-Wrote : goal.returns-in-Wrote

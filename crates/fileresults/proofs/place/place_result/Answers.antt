@@ -2,7 +2,6 @@
 use Rattle.chip.specs.UpdatePlace.{place_numbers}
 use Rattle.fileresults.specs.Place.{place_result}
 use mathlib.Core.Path.{refl}
-use borrow.Author.Rules.{rules}
 use Rattle.fileresults.proofs.place.place_result.Goals as goal
 
 pub returns-in-Found : goal.returns-in-Found

@@ -2,7 +2,6 @@
 use Rattle.report.specs.Refusal.{report_numbers}
 use Rattle.fileresults.specs.Reporting.{report_result}
 use mathlib.Core.Path.{refl}
-use borrow.Author.Rules.{rules}
 use Rattle.fileresults.proofs.reporting.report_result.Goals as goal
 
 pub returns-in-Written : goal.returns-in-Written

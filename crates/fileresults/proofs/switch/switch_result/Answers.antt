@@ -2,7 +2,6 @@
 use Rattle.chip.specs.Switch.{switch_numbers}
 use Rattle.fileresults.specs.Switch.{switch_result}
 use mathlib.Core.Path.{refl}
-use borrow.Author.Rules.{rules}
 use Rattle.fileresults.proofs.switch.switch_result.Goals as goal
 
 pub returns-in-On : goal.returns-in-On

@@ -2,7 +2,6 @@
 use Rattle.results.specs.Boot.{image_result}
 use Rattle.base.specs.Question.{ask}
 use mathlib.Core.Path.{sym, ap, ◌∙◌}
-use borrow.Author.Rules.{rules}
 use Rattle.host.proofs.boot.tealsettle_image_check.Goals as goal
 use Rattle.host.proofs.boot.tealsettle_image_check.Goals.{then-has_number, else-has_number}
 

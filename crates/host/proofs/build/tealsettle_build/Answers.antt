@@ -5,7 +5,6 @@ use Rattle.base.specs.Question.{ask}
 use Rattle.builder.specs.Builder.{build_answer, build_output}
 use lib.ListN.{length}
 use mathlib.Core.Path.{sym, ap, ◌∙◌}
-use borrow.Author.Rules.{rules}
 use Rattle.host.proofs.build.tealsettle_build.Goals as goal
 use Rattle.host.proofs.build.tealsettle_build.Goals.{then-has_number, else-has_number}
 

@@ -2,7 +2,6 @@
 use Rattle.runresults.specs.Cut.{bench_result}
 use Rattle.base.specs.Question.{ask}
 use mathlib.Core.Path.{sym, ap, ◌∙◌}
-use borrow.Author.Rules.{rules}
 use Rattle.host.proofs.cut.tealsettle_cut_run.Goals as goal
 use Rattle.host.proofs.cut.tealsettle_cut_run.Goals.{then-has_number, else-has_number}
 

@@ -3,7 +3,6 @@ use Rattle.runresults.specs.Run.{finished_result}
 use Rattle.base.specs.Question.{ask}
 use Rattle.updater.specs.Run.{finished_answer}
 use mathlib.Core.Path.{sym, ap, ◌∙◌}
-use borrow.Author.Rules.{rules}
 use Rattle.host.proofs.run.tealsettle_finished.Goals as goal
 use Rattle.host.proofs.run.tealsettle_finished.Goals.{then-has_number, else-has_number}
 

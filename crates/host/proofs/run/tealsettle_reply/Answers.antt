@@ -4,9 +4,7 @@ use Rattle.runresults.specs.Run.{reply_result}
 use Rattle.base.specs.Question.{ask}
 use Rattle.updater.specs.Run.{reply_numbers, reply_answer}
 use Rattle.kind.specs.Spi.{spi}
-use borrow.Author.Tests.{not-true, not-false}
 use mathlib.Core.Path.{sym, ap, ◌∙◌}
-use borrow.Author.Rules.{rules}
 use Rattle.host.proofs.run.tealsettle_reply.Goals as goal
 
 pub returns-then-not-has_number : goal.returns-then-not-has_number

@@ -4,7 +4,6 @@ use Rattle.base.specs.Question.{ask}
 use Rattle.starts.specs.Starts.{start_answer}
 use Rattle.kind.specs.Spi.{spi}
 use mathlib.Core.Path.{sym, ap, ◌∙◌}
-use borrow.Author.Rules.{rules}
 use Rattle.host.proofs.run.tealsettle_start.Goals as goal
 use Rattle.host.proofs.run.tealsettle_start.Goals.{then-has_number, else-has_number}
 

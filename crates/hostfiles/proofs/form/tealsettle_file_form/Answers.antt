@@ -1,7 +1,6 @@
 -- `tealsettle_file_form` meets its contract.
 use Rattle.fileresults.specs.Form.{form_result}
 use mathlib.Core.Path.{ap, ◌∙◌}
-use borrow.Author.Rules.{rules}
 use Rattle.hostfiles.proofs.form.tealsettle_file_form.Goals as goal
 
 pub returns : goal.returns

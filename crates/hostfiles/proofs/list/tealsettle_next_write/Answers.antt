@@ -2,9 +2,7 @@
 use Rattle.writes.specs.Cursor.{step_of}
 use Rattle.fileresults.specs.List.{step_result}
 use Rattle.base.specs.Question.{ask}
-use borrow.Author.Tests.{not-true, not-false}
 use mathlib.Core.Path.{sym, ap, ◌∙◌}
-use borrow.Author.Rules.{rules}
 use Rattle.hostfiles.proofs.list.tealsettle_next_write.Goals as goal
 
 pub returns-then-not-has_number : goal.returns-then-not-has_number

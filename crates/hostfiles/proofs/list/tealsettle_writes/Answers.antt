@@ -2,7 +2,6 @@
 use Rattle.fileresults.specs.List.{listing_result}
 use Rattle.base.specs.Question.{ask}
 use mathlib.Core.Path.{sym, ap, ◌∙◌}
-use borrow.Author.Rules.{rules}
 use Rattle.hostfiles.proofs.list.tealsettle_writes.Goals as goal
 use Rattle.hostfiles.proofs.list.tealsettle_writes.Goals.{then-has_number, else-has_number}
 

@@ -1,6 +1,5 @@
 -- `tealsettle_heaviest_image` meets its contract.
 use mathlib.Core.Path.{ap, ◌∙◌}
-use borrow.Author.Rules.{rules}
 use Rattle.results.specs.Most.{most_result}
 use Rattle.hostfiles.proofs.most.tealsettle_heaviest_image.Goals as goal
 

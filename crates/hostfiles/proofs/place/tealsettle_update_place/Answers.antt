@@ -2,7 +2,6 @@
 use Rattle.fileresults.specs.Place.{place_result}
 use Rattle.base.specs.Question.{ask}
 use mathlib.Core.Path.{sym, ap, ◌∙◌}
-use borrow.Author.Rules.{rules}
 use Rattle.hostfiles.proofs.place.tealsettle_update_place.Goals as goal
 use Rattle.hostfiles.proofs.place.tealsettle_update_place.Goals.{then-has_number, else-has_number}
 

@@ -2,7 +2,6 @@
 use Rattle.fileresults.specs.Reporting.{report_result}
 use Rattle.base.specs.Question.{ask}
 use mathlib.Core.Path.{sym, ap, ◌∙◌}
-use borrow.Author.Rules.{rules}
 use Rattle.hostfiles.proofs.reporting.tealsettle_report.Goals as goal
 use Rattle.hostfiles.proofs.reporting.tealsettle_report.Goals.{then-has_number, else-has_number}
 

@@ -1,6 +1,5 @@
 -- `tealsettle_mcs_read` meets its contract.
 use mathlib.Core.Path.{ap, ◌∙◌}
-use borrow.Author.Rules.{rules}
 use Rattle.results.specs.Text.{read_result}
 use Rattle.hosttexts.proofs.reading.tealsettle_mcs_read.Goals as goal
 

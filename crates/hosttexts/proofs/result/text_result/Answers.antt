@@ -1,6 +1,5 @@
 -- `text_result` meets its contract.
 use mathlib.Core.Path.{refl}
-use borrow.Author.Rules.{rules}
 use Rattle.mcswriter.specs.Mcswriter.{text_numbers}
 use Rattle.hosttexts.specs.Result.{text_result}
 use Rattle.hosttexts.proofs.result.text_result.Goals as goal

@@ -1,6 +1,5 @@
 -- `tealsettle_mcs_form` meets its contract.
 use mathlib.Core.Path.{refl, sym, ◌∙◌}
-use borrow.Author.Rules.{rules}
 use Rattle.base.specs.Question.{ask}
 use Rattle.hosttexts.specs.Writing.{form_call}
 use Rattle.hosttexts.proofs.writing.tealsettle_mcs_form.Goals as goal

@@ -1,6 +1,5 @@
 -- `tealsettle_mcs_length` meets its contract.
 use mathlib.Core.Path.{ap, ◌∙◌}
-use borrow.Author.Rules.{rules}
 use Rattle.hosttexts.specs.Result.{text_result}
 use Rattle.hosttexts.proofs.writing.tealsettle_mcs_length.Goals as goal
 

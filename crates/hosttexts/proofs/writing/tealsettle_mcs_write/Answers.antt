@@ -1,6 +1,5 @@
 -- `tealsettle_mcs_write` meets its contract.
 use mathlib.Core.Path.{ap, ◌∙◌}
-use borrow.Author.Rules.{rules}
 use Rattle.hosttexts.specs.Result.{text_result}
 use Rattle.hosttexts.proofs.BackLaws.{host_back}
 use Rattle.hosttexts.proofs.writing.tealsettle_mcs_write.Goals as goal

@@ -6,7 +6,6 @@ use native.Mathlib.Omega.{arith}
 use lib.ListN.{length}
 use Rattle.comparison.specs.Comparison.{padded, differs}
 use Rattle.comparison.specs.Internal.{comparison}
-use borrow.Author.Rules.{rules}
 use Rattle.orders.proofs.judging.compare_look.Goals as goal
 
 pub carried_bytes-requires : goal.carried_bytes-requires

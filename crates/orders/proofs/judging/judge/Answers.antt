@@ -3,7 +3,6 @@ use Prim.Native.Nat.{ℕ}
 use mathlib.Core.Path.{◌≡◌, refl, sym, ap, ◌∙◌}
 use mathlib.Core.List.{List}
 use native.Mathlib.Omega.{arith}
-use borrow.Author.Tests.{not-true, not-false}
 use lib.ListN.{length}
 use Rattle.base.specs.Question.{ask}
 use Rattle.kind.specs.Spi.{spi}
@@ -14,7 +13,6 @@ use Rattle.orders.specs.Judging.{judged_look}
 use Rattle.orders.specs.Types.{Look}
 use Rattle.orders.proofs.CarriedLaws.{Looks, looks}
 use Rattle.orders.proofs.JudgingLaws.{asked_for, on_operation, judged_by}
-use borrow.Author.Rules.{rules}
 use Rattle.orders.proofs.judging.judge.Goals as goal
 use Rattle.orders.proofs.judging.judge.Goals.{After-operation_at-operation, Else-not-is_as_asked}
 

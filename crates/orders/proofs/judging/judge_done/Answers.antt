@@ -2,7 +2,6 @@
 use mathlib.Core.Path.{refl, sym, ◌∙◌}
 use Rattle.base.specs.Question.{ask}
 use Rattle.orders.specs.Judging.{judged_done}
-use borrow.Author.Rules.{rules}
 use Rattle.orders.proofs.judging.judge_done.Goals as goal
 
 pub returns-then-is_as_asked : goal.returns-then-is_as_asked

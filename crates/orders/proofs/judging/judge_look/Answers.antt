@@ -1,7 +1,6 @@
 -- `judging::judge_look` meets its contract.
 use mathlib.Core.Path.{refl}
 use Rattle.orders.specs.Judging.{judged_look}
-use borrow.Author.Rules.{rules}
 use Rattle.orders.proofs.judging.judge_look.Goals as goal
 
 pub returns-in-Same : goal.returns-in-Same

@@ -1,5 +1,4 @@
 -- `part::put_end` meets its contract: the end record's line is its text.
-use borrow.Author.Rules.{rules}
 use Rattle.recordwriter.proofs.LineLaws.{end_text_law}
 use Rattle.recordwriter.proofs.part.put_end.Goals as goal
 

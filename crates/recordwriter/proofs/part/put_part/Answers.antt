@@ -1,11 +1,7 @@
 -- `part::put_part` meets its contract. The loop's invariant: the lines of the bytes so far were put.
-use Prim.Native.Nat.{◌-◌}
 use native.Mathlib.Omega.{arith}
-use borrow.Author.Rules.{rules}
-use lib.ListN.{length}
 use lib.Seq.{take_all}
-use Rattle.fields.proofs.Laws.{put_length}
-use Rattle.recordwriter.proofs.PartLaws.{Written, written_none, room_more, written_more}
+use Rattle.recordwriter.proofs.PartLaws.{written_none, room_more, written_more}
 use Rattle.recordwriter.proofs.part.put_part.Goals as goal
 
 pub loop-done-init : goal.loop-done-init

@@ -1,7 +1,6 @@
 -- `part::put_upper` meets its contract: at a multiple of 65,536 the upper half's line is its text, elsewhere there is none.
 use mathlib.Core.List.{[]}
 use native.Mathlib.Omega.{arith}
-use borrow.Author.Rules.{rules}
 use lib.Seq.{paste-zero}
 use Rattle.recordwriter.proofs.PartLaws.{upper_line_law, upper_long, no_upper}
 use Rattle.recordwriter.proofs.part.put_upper.Goals as goal

@@ -3,7 +3,6 @@ use Rattle.base.proofs.Laws.{gives}
 use Rattle.report.specs.Refusal.{report_numbers}
 use Rattle.report.proofs.AnswerLaws.{stuck_answer, refused_answer}
 use mathlib.Core.Path.{sym, ◌∙◌}
-use borrow.Author.Rules.{rules}
 use Rattle.report.proofs.boot.report.Goals as goal
 
 pub report_loaded-requires : goal.report_loaded-requires

@@ -1,8 +1,6 @@
 -- `boot::report_loaded` meets its contract.
 use mathlib.Core.Path.{sym, ◌∙◌}
 use native.Mathlib.Omega.{arith}
-use borrow.Author.Tests.{not-true, not-false}
-use borrow.Author.Rules.{rules}
 use Rattle.report.proofs.AnswerLaws.{loaded_small, loaded_sync, loaded_room, loaded_put}
 use Rattle.report.proofs.boot.report_loaded.Goals as goal
 

@@ -5,7 +5,6 @@ use Rattle.report.proofs.AnswerLaws.{no_room_law, put_answer}
 use Rattle.reportlines.specs.Reportlines.{stuck_line}
 use native.Mathlib.Omega.{arith}
 use mathlib.Core.Path.{sym}
-use borrow.Author.Rules.{rules}
 use Rattle.report.proofs.boot.report_stuck.Goals as goal
 
 pub returns-then-out-lt-STUCK : goal.returns-then-out-lt-STUCK

@@ -8,7 +8,6 @@ use lib.Seq.{paste}
 use native.Mathlib.Omega.{arith}
 use mathlib.Core.Path.{sym, ap, ◌∙◌}
 use Prim.Native.Nat.{ℕ}
-use borrow.Author.Rules.{rules}
 use Rattle.report.proofs.refusal.report.Goals as goal
 
 pub returns-then-out-length : goal.returns-then-out-length

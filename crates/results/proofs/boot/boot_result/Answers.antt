@@ -4,7 +4,6 @@ use Rattle.results.specs.Boot.{boot_result}
 use mathlib.Core.Bool.{Bool, true, false, cond}
 use mathlib.Core.Path.{◌≡◌, refl}
 use mir.Val.{bool_byte}
-use borrow.Author.Rules.{rules}
 use Rattle.results.proofs.boot.boot_result.Goals as goal
 
 -- a `bool` as a number

@@ -2,7 +2,6 @@
 use Rattle.bootreader.specs.Image.{image_numbers}
 use Rattle.results.specs.Boot.{image_result}
 use mathlib.Core.Path.{refl}
-use borrow.Author.Rules.{rules}
 use Rattle.results.proofs.boot.image_result.Goals as goal
 
 pub returns-in-Accepted : goal.returns-in-Accepted

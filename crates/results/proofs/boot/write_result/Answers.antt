@@ -2,7 +2,6 @@
 use Rattle.packets.specs.Trace.{write_numbers}
 use Rattle.results.specs.Boot.{write_result}
 use mathlib.Core.Path.{refl}
-use borrow.Author.Rules.{rules}
 use Rattle.results.proofs.boot.write_result.Goals as goal
 
 pub returns-in-Found : goal.returns-in-Found

@@ -2,7 +2,6 @@
 use Rattle.builder.specs.Builder.{build_numbers}
 use Rattle.results.specs.Build.{build_result}
 use mathlib.Core.Path.{refl}
-use borrow.Author.Rules.{rules}
 use Rattle.results.proofs.build.build_result.Goals as goal
 
 pub returns-in-Built : goal.returns-in-Built

@@ -2,7 +2,6 @@
 use Rattle.heaviest.specs.Heaviest.{most_numbers}
 use Rattle.results.specs.Most.{most_result}
 use mathlib.Core.Path.{refl}
-use borrow.Author.Rules.{rules}
 use Rattle.results.proofs.most.most_result.Goals as goal
 
 pub returns-in-Most : goal.returns-in-Most

@@ -2,7 +2,6 @@
 use Rattle.mcs.specs.Reader.{read_numbers}
 use Rattle.results.specs.Text.{read_result}
 use mathlib.Core.Path.{refl}
-use borrow.Author.Rules.{rules}
 use Rattle.results.proofs.text.read_result.Goals as goal
 
 pub returns-in-Read : goal.returns-in-Read

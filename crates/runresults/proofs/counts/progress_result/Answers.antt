@@ -2,7 +2,6 @@
 use Rattle.starts.specs.Starts.{progress_numbers}
 use Rattle.runresults.specs.Counts.{progress_result}
 use mathlib.Core.Path.{refl}
-use borrow.Author.Rules.{rules}
 use Rattle.runresults.proofs.counts.progress_result.Goals as goal
 
 pub returns-in-At : goal.returns-in-At

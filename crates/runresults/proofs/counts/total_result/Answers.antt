@@ -2,7 +2,6 @@
 use Rattle.starts.specs.Starts.{total_numbers}
 use Rattle.runresults.specs.Counts.{total_result}
 use mathlib.Core.Path.{refl}
-use borrow.Author.Rules.{rules}
 use Rattle.runresults.proofs.counts.total_result.Goals as goal
 
 pub returns-in-Total : goal.returns-in-Total

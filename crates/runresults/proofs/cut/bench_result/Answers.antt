@@ -2,7 +2,6 @@
 use Rattle.bench.specs.Bench.{bench_numbers}
 use Rattle.runresults.specs.Cut.{bench_result}
 use mathlib.Core.Path.{refl}
-use borrow.Author.Rules.{rules}
 use Rattle.runresults.proofs.cut.bench_result.Goals as goal
 
 pub returns-in-Reached : goal.returns-in-Reached

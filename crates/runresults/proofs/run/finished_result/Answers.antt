@@ -2,7 +2,6 @@
 use Rattle.updater.specs.Run.{finished_numbers}
 use Rattle.runresults.specs.Run.{finished_result}
 use mathlib.Core.Path.{refl}
-use borrow.Author.Rules.{rules}
 use Rattle.runresults.proofs.run.finished_result.Goals as goal
 
 pub returns-in-Running : goal.returns-in-Running

@@ -2,7 +2,6 @@
 use Rattle.updater.specs.Run.{order_result_numbers}
 use Rattle.runresults.specs.Run.{order_result}
 use mathlib.Core.Path.{refl}
-use borrow.Author.Rules.{rules}
 use Rattle.runresults.proofs.run.order_numbers.Goals as goal
 
 pub returns-in-Ordered : goal.returns-in-Ordered

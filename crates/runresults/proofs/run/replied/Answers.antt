@@ -1,6 +1,5 @@
 -- `replied` meets its contract.
 use mathlib.Core.Path.{refl}
-use borrow.Author.Rules.{rules}
 use Rattle.runresults.proofs.run.replied.Goals as goal
 
 pub returns : goal.returns

@@ -1,7 +1,6 @@
 -- `reply_of` meets its contract.
 use Rattle.runresults.specs.Run.{reply_result}
 use mathlib.Core.Path.{ap, ◌∙◌}
-use borrow.Author.Rules.{rules}
 use Rattle.runresults.proofs.run.reply_of.Goals as goal
 
 pub returns : goal.returns

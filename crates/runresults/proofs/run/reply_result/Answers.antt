@@ -1,7 +1,6 @@
 -- `reply_result` meets its contract.
 use Rattle.updater.specs.Run.{reply_numbers}
 use Rattle.runresults.specs.Run.{reply_result}
-use borrow.Author.Rules.{rules}
 use Rattle.runresults.proofs.run.reply_result.Goals as goal
 
 pub returns-in-Next : goal.returns-in-Next

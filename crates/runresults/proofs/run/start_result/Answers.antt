@@ -2,7 +2,6 @@
 use Rattle.starts.specs.Starts.{start_numbers}
 use Rattle.runresults.specs.Run.{start_result}
 use mathlib.Core.Path.{refl}
-use borrow.Author.Rules.{rules}
 use Rattle.runresults.proofs.run.start_result.Goals as goal
 
 pub returns-in-Started : goal.returns-in-Started

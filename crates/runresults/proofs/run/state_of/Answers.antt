@@ -1,6 +1,5 @@
 -- `state_of` meets its contract.
 use mathlib.Core.Path.{refl}
-use borrow.Author.Rules.{rules}
 use Rattle.runresults.proofs.run.state_of.Goals as goal
 
 pub returns : goal.returns

@@ -4,7 +4,6 @@ use Prim.Native.Nat.{ℕ}
 use Rattle.updater.specs.State.{ended}
 use Rattle.updater.specs.Judging.{on_judged}
 use Rattle.updater.specs.Types.{State, Next, Stopped}
-use borrow.Author.Rules.{rules}
 use Rattle.updater.proofs.run.reply_judged.Goals as goal
 
 pub returns-in-NotAsked : goal.returns-in-NotAsked

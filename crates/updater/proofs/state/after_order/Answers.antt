@@ -3,7 +3,6 @@ use mathlib.Core.Path.{sym}
 use native.Mathlib.Omega.{arith}
 use Rattle.updater.proofs.RunLaws.{running_says, after_index, after_phase}
 use Rattle.updater.proofs.CallLaws.{places_small}
-use borrow.Author.Rules.{rules}
 use Rattle.updater.proofs.state.after_order.Goals as goal
 
 pub overflow_add-state : goal.overflow_add-state

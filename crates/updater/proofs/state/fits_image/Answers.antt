@@ -1,10 +1,8 @@
 -- `state::fits_image` meets its contract.
 use mathlib.Core.Path.{sym, ◌∙◌}
-use borrow.Author.Tests.{not-true, not-false}
 use Rattle.base.specs.Question.{ask}
 use Rattle.kind.proofs.Laws.{on_layout}
 use Rattle.updater.proofs.CallLaws.{fits_by}
-use borrow.Author.Rules.{rules}
 use Rattle.updater.proofs.state.fits_image.Goals as goal
 
 pub returns-then-not-image_length_allowed : goal.returns-then-not-image_length_allowed

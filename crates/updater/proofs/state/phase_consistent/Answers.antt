@@ -3,7 +3,6 @@ use mathlib.Core.Path.{refl}
 use borrow.Author.Tests.{lt-ltb, le-ltb, eq-eqb, ne_eqb}
 use Rattle.base.specs.Question.{ask}
 use Rattle.updater.specs.State.{phase_consistent}
-use borrow.Author.Rules.{rules}
 use Rattle.updater.proofs.state.phase_consistent.Goals as goal
 
 pub returns-then-state-orders_in : goal.returns-then-state-orders_in

@@ -1,10 +1,8 @@
 -- `State::finished` meets its contract.
 use mathlib.Core.Path.{refl, sym, ◌∙◌}
-use borrow.Author.Tests.{not-true, not-false}
 use Rattle.base.proofs.Laws.{gives}
 use Rattle.base.specs.Question.{ask}
 use Rattle.updater.specs.Run.{finished_numbers, finished_answer}
-use borrow.Author.Rules.{rules}
 use Rattle.updater.proofs.state.State.finished.Goals as goal
 
 pub returns-then-not-fits_image : goal.returns-then-not-fits_image

@@ -1,12 +1,11 @@
 -- `State::order` meets its contract.
 use mathlib.Core.Path.{refl, sym, ◌∙◌}
-use borrow.Author.Tests.{lt-ltb, le-ltb, not-true, not-false}
+use borrow.Author.Tests.{lt-ltb, le-ltb}
 use Rattle.base.proofs.Laws.{gives}
 use Rattle.base.specs.Question.{ask}
 use Rattle.updater.specs.Run.{order_numbers, order_answer}
 use Rattle.updater.proofs.RunLaws.{fits_says}
 use Rattle.updater.proofs.CallLaws.{fits_own}
-use borrow.Author.Rules.{rules}
 use Rattle.updater.proofs.state.State.order.Goals as goal
 
 pub returns-then-not-fits_image : goal.returns-then-not-fits_image

@@ -1,6 +1,6 @@
 -- `State::reply` meets its contract.
 use mathlib.Core.Path.{refl, sym, ap, ◌∙◌}
-use borrow.Author.Tests.{lt-ltb, le-ltb, not-true, not-false}
+use borrow.Author.Tests.{lt-ltb, le-ltb}
 use lib.ListN.{length}
 use Rattle.base.proofs.Laws.{gives}
 use Rattle.base.specs.Question.{ask}
@@ -12,7 +12,6 @@ use Rattle.updater.specs.Judging.{on_judged}
 use Rattle.updater.specs.Types.{Judgement}
 use Rattle.updater.proofs.OrderLaws.{index_at, current_order_law}
 use Rattle.updater.proofs.CallLaws.{fits_own, places_small, judged_replies}
-use borrow.Author.Rules.{rules}
 use Rattle.updater.proofs.state.State.reply.Goals as goal
 
 pub returns-then-not-fits_image : goal.returns-then-not-fits_image
