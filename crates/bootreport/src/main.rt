@@ -3,13 +3,12 @@
 // written.
 #![tactic(auto)]
 
-ghost use Rattle.std.specs.Prelude.{◌≡◌, ◌≤◌, length, IfOk};
+ghost use Rattle.std.specs.Prelude.{◌≡◌, ◌≤◌, length};
 ghost use Rattle.filereport.specs.Filereport.{file_report, file_output};
 
 use filereport::report;
 use report::refusal::ReportAnswer;
-use std::io;
-use std::io::{ErrorKind, Read};
+use std::io::Read;
 
 // One byte more than the longest text that is read, so that a longer one shows.
 fn input() -> [u8; 65537] {
@@ -21,26 +20,20 @@ fn output() -> [u8; 55281] {
     [0; 55281]
 }
 
-// Reads into a buffer until it is full or the reader is at its end: how many bytes.
-fn read_full(from: &mut impl Read, buffer: &mut [u8]) -> io::Result<usize>
-    ensures { IfOk result (λ size. size ≤ length buffer.new) }
+// Reads into a buffer until it is full or the reader is at its end: how many bytes. A read that fails counts as the
+// end.
+fn read_full(from: &mut impl Read, buffer: &mut [u8]) -> usize
+    ensures { result ≤ length buffer.new }
 {
     let mut size = 0;
-    for _ in 0..u64::MAX {
-        if size == buffer.len() {
+    while size < buffer.len() {
+        let more = from.read(&mut buffer[size..]).unwrap_or(0);
+        if more == 0 {
             break;
         }
-        match from.read(&mut buffer[size..]) {
-            Ok(0) => break,
-            Ok(more) => size += more,
-            Err(error) => {
-                if error.kind() != ErrorKind::Interrupted {
-                    return Err(error);
-                }
-            }
-        }
+        size += more;
     }
-    Ok(size)
+    size
 }
 
 // The report of a text: how many bytes it has in the buffer. No report is longer than the buffer (`FileReportFits`), so the
@@ -55,19 +48,17 @@ fn whole_report(text: &[u8], out: &mut [u8; 55281]) -> usize
     length
 }
 
-// Where the report is cut or lost, standard error says so, and the program fails.
-fn print(rt: &(impl Print + Eprint), report: &[u8]) -> io::Result<()> {
-    let written = rt.write_all(report);
-    if written.is_err() {
-        eprint!(rt; "bootreport: the report could not be written whole\n")?;
+// Where the report is cut or lost, standard error says so, as far as it can.
+fn print(rt: &(impl Print + Eprint), report: &[u8]) {
+    if rt.write_all(report).is_err() {
+        let _ = eprint!(rt; "bootreport: the report could not be written whole\n");
     }
-    written
 }
 
-fn main(rt: HostRuntime) -> io::Result<()> {
+fn main(rt: HostRuntime) {
     let mut text = input();
-    let length = read_full(&mut rt.stdin(), &mut text)?;
+    let length = read_full(&mut rt.stdin(), &mut text);
     let mut out = output();
     let written = whole_report(&text[..length], &mut out);
-    print(&rt, &out[..written])
+    print(&rt, &out[..written]);
 }

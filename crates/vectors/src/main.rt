@@ -31,13 +31,13 @@
 // number or no byte, or with a number or bytes that there is no room for.
 #![tactic(auto)]
 
-ghost use Rattle.std.specs.Prelude.{◌≤◌, length, IfOk};
+ghost use Rattle.std.specs.Prelude.{◌≤◌, length};
 
 use caseanswers as say;
 use caseasks::{Case, read_case};
 use caselines::{room, words};
 use std::io;
-use std::io::{BufWriter, ErrorKind, Read, Write};
+use std::io::{BufWriter, Read, Write};
 
 // The call of a case, with the bytes of its fields.
 fn call(out: &mut impl Write, case: Case, given: &[u8]) -> io::Result<()> {
@@ -93,31 +93,25 @@ fn run_lines(out: &mut impl Write, input: &[u8]) -> io::Result<()> {
     Ok(())
 }
 
-// Reads into a buffer until it is full or the reader is at its end: how many bytes.
-fn read_full(from: &mut impl Read, buffer: &mut [u8]) -> io::Result<usize>
-    ensures { IfOk result (λ size. size ≤ length buffer.new) }
+// Reads into a buffer until it is full or the reader is at its end: how many bytes. A read that fails counts as the
+// end.
+fn read_full(from: &mut impl Read, buffer: &mut [u8]) -> usize
+    ensures { result ≤ length buffer.new }
 {
     let mut size = 0;
-    for _ in 0..u64::MAX {
-        if size == buffer.len() {
+    while size < buffer.len() {
+        let more = from.read(&mut buffer[size..]).unwrap_or(0);
+        if more == 0 {
             break;
         }
-        match from.read(&mut buffer[size..]) {
-            Ok(0) => break,
-            Ok(more) => size += more,
-            Err(error) => {
-                if error.kind() != ErrorKind::Interrupted {
-                    return Err(error);
-                }
-            }
-        }
+        size += more;
     }
-    Ok(size)
+    size
 }
 
 fn main(rt: HostRuntime) -> io::Result<()> {
     let mut input = room();
-    let length = read_full(&mut rt.stdin(), &mut input)?;
+    let length = read_full(&mut rt.stdin(), &mut input);
     let mut out = BufWriter::new(rt.alloc(), rt.stdout())?;
     run_lines(&mut out, &input[..length])?;
     // there may be lines that were not read
