@@ -144,6 +144,7 @@ pub fn is_type2_write(word: u32) -> bool
 
 // Most commands are below the two that do not let it go on: one comparison passes them. It is of the whole word, which is then
 // loaded at once; for the two values alone it would be loaded byte by byte.
+#[tactic(auto, unfolding(crate::specs::Header::effect_of, base::specs::Question::ask))]
 pub fn effect_of(register: u32, word: u32) -> Effect
     ensures { result ≡ effect_of register word }
 {
