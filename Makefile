@@ -19,7 +19,7 @@ VERSION := $(shell sed -n 's/^.define TEALSETTLE_VERSION "\(.*\)"$$/\1/p' includ
 
 all: target/tealsettle target/libtealsettle.a target/bin/bootreport
 
-# The program, which is run once as it is made, and the library's proved part: each with what stands below it.
+# The program, which is run once as it is made, and then the proved part of the library: each with what stands below it.
 target/bin/bootreport: $(PROVED)
 	@mkdir -p target/bin
 	@echo "rt run: proves bootreport and makes it (target/bootreport.log)"
@@ -27,7 +27,7 @@ target/bin/bootreport: $(PROVED)
 	@cmp target/bootreport.out crates/bootreport/stdout
 	@cp crates/bootreport/out/bootreport $@
 
-target/libtealsettle_c.a: $(PROVED)
+target/libtealsettle_c.a: target/bin/bootreport
 	@mkdir -p target
 	@echo "rt lib: proves the functions for C and makes their archive (target/tealsettle_c.log)"
 	@cd crates/tealsettle_c && rt lib >../../target/tealsettle_c.log 2>&1 || { cat ../../target/tealsettle_c.log; exit 1; }

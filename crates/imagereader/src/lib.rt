@@ -39,7 +39,7 @@ pub enum PacketAnswer {
 }
 
 // An image, and where its next packet begins.
-#[derive(Drop)]
+#[derive(Clone, Copy)]
 pub struct Reader<'a> {
     pub image: &'a [u8],
     pub at: usize,
