@@ -1,26 +1,19 @@
 -- `comparison::all_erased` meets its contract. The loop's invariant: while `all` is true, the first i bytes are FF.
 use mathlib.Core.Path.{sym, ◌∙◌}
+use Rattle.std.proofs.lemmas.Grind.{common_steps}
 use native.Mathlib.Omega.{arith}
 use borrow.Author.Count.{below_more}
 use lib.ListN.{length, get_or-replicate}
 use lib.Seq.{ext_get_or}
-use Rattle.base.proofs.Laws.{false_true}
 use Rattle.flash.specs.Flash.{erased}
 use Rattle.flash.proofs.Laws.{erased_length}
 use Rattle.comparison.proofs.all_erased.Goals as goal
-use Rattle.comparison.proofs.all_erased.Goals.{then-bytes-i, else-bytes-i}
 
 pub loop-i-init : goal.loop-i-init
 loop-i-init c = (omega arith, λ t k h. absurd (omega arith))
 
 pub loop-i-preserved : goal.loop-i-preserved
-loop-i-preserved c = (
-  omega arith,
-  elim c.if-bytes-i.branch [
-    | then-bytes-i w ↦ λ t. absurd (false_true (sym w.all-is ∙ t))
-    | else-bytes-i w ↦ λ t. below_more _ _ (c.loop-i.invariant.1 (sym w.all-is ∙ t)) w.if-bytes-i.false
-  ],
-)
+loop-i-preserved c = (omega arith, λ t. below_more _ _ (grind (arith, common_steps)) (grind (arith, common_steps)))
 
 pub returns : goal.returns
 returns c t =
