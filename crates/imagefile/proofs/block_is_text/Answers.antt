@@ -1,11 +1,7 @@
 -- `block_is_text` meets its contract. The loop's invariant: all bytes are text where those before this place are, as `text` says, and those from here on.
-use Prim.Native.Nat.{◌+◌}
-use mathlib.Core.Path.{refl, sym, ap, ◌∙◌}
-use mathlib.Core.Bool.{◌&&◌}
+use mathlib.Core.Path.{refl, sym, ◌∙◌}
 use native.Mathlib.Omega.{arith}
 use Rattle.std.proofs.lemmas.Grind.{common_steps}
-use lib.ListN.{drop}
-use Rattle.imagefile.specs.Imagefile.{is_text}
 use Rattle.imagefile.proofs.TextLaws.{and_text_on, and_text_stop, and_text_end}
 use Rattle.imagefile.proofs.block_is_text.Goals as goal
 
