@@ -14,10 +14,13 @@ pub fn min(a: usize, b: usize) -> usize
     if a < b { a } else { b }
 }
 
-// Copies bytes to the front of a buffer; the bytes after them stay.
+// Copies bytes to the front of a buffer; the bytes after them stay. A loop, and no method of the slice: that would be compiled
+// to a call of memmove, which a small host does not have.
 pub fn copy(from: &[u8], to: &mut [u8])
     requires { length from.now ≤ length to.old }
     ensures { to.new ≡ from.now ++ drop (length from.now) to.old }
 {
-    to[..from.len()].copy_from_slice(from);
+    for i in 0..from.len() {
+        to[i] = from[i];
+    }
 }
