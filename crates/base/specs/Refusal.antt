@@ -1,76 +1,44 @@
--- The numbers of refusals and stops, by name. Document 01, "Questions at the door".
-use Rattle.std.specs.Prelude.{ℕ}
+-- Refusals and their numbers. Document 01, "Questions at the door".
+use Rattle.std.specs.Prelude.{ℕ, Result, Err}
+use Rattle.base.specs.Types.{Reason, BadChipLength, BadUpdatePlace, BadUpdateLength, BadImageLength, ImageFault, ImageJumps, BadState, RunEnded, BadReply, SwitchNotErased, UpdateDiffers, SwitchNotOn, BadDamage, BadLine, BadSum, BadRecord, BadAddress, BadEnd, NoRoom, BadHeaviestLength, Refusal}
 
+-- The number of a refusal or a stop.
+abbrev pub number_of : Reason → ℕ
 -- Question 1.
-abbrev pub bad_chip_length : ℕ
-bad_chip_length = 1
-
+number_of BadChipLength = 1
 -- Question 2.
-abbrev pub bad_update_place : ℕ
-bad_update_place = 2
-
+number_of BadUpdatePlace = 2
 -- Question 3.
-abbrev pub bad_update_length : ℕ
-bad_update_length = 3
-
+number_of BadUpdateLength = 3
 -- Question 4.
-abbrev pub bad_image_length : ℕ
-bad_image_length = 4
-
+number_of BadImageLength = 4
 -- Question 5, and where the faulty word is IPROG.
-abbrev pub image_fault : ℕ
-image_fault = 5
-
-abbrev pub image_jumps : ℕ
-image_jumps = 6
-
+number_of ImageFault = 5
+number_of ImageJumps = 6
 -- Question 6.
-abbrev pub bad_state : ℕ
-bad_state = 7
-
+number_of BadState = 7
 -- Question 7.
-abbrev pub run_ended : ℕ
-run_ended = 8
-
+number_of RunEnded = 8
 -- Question 8.
-abbrev pub bad_reply : ℕ
-bad_reply = 9
-
+number_of BadReply = 9
 -- Question 9, the stops: in phase 1, in phase 4, in phase 6.
-abbrev pub switch_not_erased : ℕ
-switch_not_erased = 10
-
-abbrev pub update_differs : ℕ
-update_differs = 11
-
-abbrev pub switch_not_on : ℕ
-switch_not_on = 12
-
+number_of SwitchNotErased = 10
+number_of UpdateDiffers = 11
+number_of SwitchNotOn = 12
 -- Question 10.
-abbrev pub bad_damage : ℕ
-bad_damage = 13
-
+number_of BadDamage = 13
 -- Question 11: a line's characters, its sum, its type, its address.
-abbrev pub bad_line : ℕ
-bad_line = 14
-
-abbrev pub bad_sum : ℕ
-bad_sum = 15
-
-abbrev pub bad_record : ℕ
-bad_record = 16
-
-abbrev pub bad_address : ℕ
-bad_address = 17
-
+number_of BadLine = 14
+number_of BadSum = 15
+number_of BadRecord = 16
+number_of BadAddress = 17
 -- Question 12.
-abbrev pub bad_end : ℕ
-bad_end = 18
-
+number_of BadEnd = 18
 -- Question 13.
-abbrev pub no_room : ℕ
-no_room = 19
-
+number_of NoRoom = 19
 -- Document 02, M-111: in place of question 4.
-abbrev pub bad_heaviest_length : ℕ
-bad_heaviest_length = 29
+number_of BadHeaviestLength = 29
+
+-- A refused answer: why, and at which place.
+abbrev pub refused : {A : Type 0} → Reason → ℕ → Result A Refusal
+refused reason place = Err (record { reason = reason; place = place })

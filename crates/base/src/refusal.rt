@@ -1,43 +1,59 @@
-// The numbers of refusals and stops, by name: the only list of them in the code. docs/REFUSALS.md says what each
-// means, and include/tealsettle.h has the same names for C; docs/refusals.py holds both to this file.
+// Refusals: why a call was refused, and at which place. docs/REFUSALS.md says what each reason means, and
+// include/tealsettle.h has the same names for C; docs/refusals.py holds both to this file.
+ghost use Rattle.std.specs.Prelude.{◌≡◌};
+ghost use Rattle.base.specs.Question.{ask as question};
+ghost use Rattle.base.specs.Refusal.{number_of, refused};
 
-pub const BAD_CHIP_LENGTH: u32 = 1;
+// Why a call was refused, or a run stopped, with the number that document 01 gives it: the only list of them in the code.
+#[derive(Clone, Copy, PartialEq, Eq)]
+pub enum Reason {
+    BadChipLength = 1,
+    BadUpdatePlace = 2,
+    BadUpdateLength = 3,
+    BadImageLength = 4,
+    ImageFault = 5,
+    ImageJumps = 6,
+    BadState = 7,
+    RunEnded = 8,
+    BadReply = 9,
+    // Stops: they end a run and leave what its orders wrote.
+    SwitchNotErased = 10,
+    UpdateDiffers = 11,
+    SwitchNotOn = 12,
+    // Refusals again.
+    BadDamage = 13,
+    BadLine = 14,
+    BadSum = 15,
+    BadRecord = 16,
+    BadAddress = 17,
+    BadEnd = 18,
+    NoRoom = 19,
+    BadHeaviestLength = 29,
+}
 
-pub const BAD_UPDATE_PLACE: u32 = 2;
+// Why a call was refused, and at which place: 0 where the refusal has none.
+#[derive(Clone, Copy, PartialEq, Eq)]
+pub struct Refusal {
+    pub reason: Reason,
+    pub place: usize,
+}
 
-pub const BAD_UPDATE_LENGTH: u32 = 3;
+impl Reason {
+    // Its number.
+    pub fn number(self) -> u32
+        ensures { result ≡ number_of self }
+    {
+        self as u32
+    }
+}
 
-pub const BAD_IMAGE_LENGTH: u32 = 4;
-
-pub const IMAGE_FAULT: u32 = 5;
-
-pub const IMAGE_JUMPS: u32 = 6;
-
-pub const BAD_STATE: u32 = 7;
-
-pub const RUN_ENDED: u32 = 8;
-
-pub const BAD_REPLY: u32 = 9;
-
-// Stops: they end a run and leave what its orders wrote.
-pub const SWITCH_NOT_ERASED: u32 = 10;
-
-pub const UPDATE_DIFFERS: u32 = 11;
-
-pub const SWITCH_NOT_ON: u32 = 12;
-
-pub const BAD_DAMAGE: u32 = 13;
-
-pub const BAD_LINE: u32 = 14;
-
-pub const BAD_SUM: u32 = 15;
-
-pub const BAD_RECORD: u32 = 16;
-
-pub const BAD_ADDRESS: u32 = 17;
-
-pub const BAD_END: u32 = 18;
-
-pub const NO_ROOM: u32 = 19;
-
-pub const BAD_HEAVIEST_LENGTH: u32 = 29;
+// One question: where the answer is no it is refused, at no place.
+#[tactic(auto, unfolding(crate::specs::Question::ask))]
+pub fn ask(allowed: bool, reason: Reason) -> Result<(), Refusal>
+    ensures { result ≡ question allowed (refused reason 0) (Ok tt) }
+{
+    if allowed {
+        return Ok(());
+    }
+    Err(Refusal { reason, place: 0 })
+}
