@@ -1,16 +1,16 @@
 -- What a chip loads: the public calls on a chip's bytes, each as one definition. Document 01, "How the configuration reader reads" and "Questions at the door".
-use Rattle.std.specs.Prelude.{ℕ, ◌+◌, cond, List, [], ◌∷◌, length}
+use Rattle.std.specs.Prelude.{ℕ, ◌+◌, cond, List, [], ◌∷◌, length, Option, Result, Ok, Err}
 use Rattle.base.specs.Answer.{Numbered, result, refusal}
 use Rattle.base.specs.Question.{ask}
-use Rattle.base.specs.Refusal.{bad_chip_length}
+use Rattle.base.specs.Refusal.{number_of, refused}
 use Rattle.kind.specs.Layout.{chip_length_allowed}
 use Rattle.kind.specs.Kind.{Kind}
 use Rattle.packets.specs.Trace.{nth_write}
 use Rattle.writes.specs.Cursor.{cursor_at}
-use Rattle.bootreader.specs.Types.{Outcome, Loaded, OutcomeIprog, Stuck, BootAnswer, BootLoaded, BootStuck, BootRefused, WriteAnswer, WriteRefused, Cursor, Listing, ListingOpen, ListingRefused}
+use Rattle.bootreader.specs.Types.{BadChipLength, Refusal, Outcome, Loaded, OutcomeIprog, Stuck, Boot, BootLoaded, BootStuck, Write, Cursor}
 
 -- What document 01 says of a chip for each case of a reading: a second IPROG is a fault like any other.
-unfoldable pub boot_case : Outcome → BootAnswer
+unfoldable pub boot_case : Outcome → Boot
 boot_case (Loaded sync end writes jumped) = BootLoaded sync end writes jumped
 boot_case (OutcomeIprog place) = BootStuck place
 boot_case (Stuck place) = BootStuck place
@@ -22,19 +22,19 @@ cursor_of (OutcomeIprog place) = cursor_at 0 0
 cursor_of (Stuck place) = cursor_at 0 0
 
 -- in numbers: 0, jumped or not, sync, end, writes; 1 where the chip is stuck, with its place and no number
-unfoldable pub boot_numbers : BootAnswer → Numbered
-boot_numbers (BootLoaded sync end writes jumped) = result (0 ∷ cond jumped 1 0 ∷ sync ∷ end ∷ writes ∷ [])
-boot_numbers (BootStuck place) = record { number = 0; place = place; values = 1 ∷ [] }
-boot_numbers (BootRefused number place) = refusal number place
+unfoldable pub boot_numbers : Result Boot Refusal → Numbered
+boot_numbers (Ok (BootLoaded sync end writes jumped)) = result (0 ∷ cond jumped 1 0 ∷ sync ∷ end ∷ writes ∷ [])
+boot_numbers (Ok (BootStuck place)) = record { number = 0; place = place; values = 1 ∷ [] }
+boot_numbers (Err r) = refusal (number_of r.reason) r.place
 
 -- `boot::answer`
-unfoldable pub boot_answer : Kind → List ℕ → BootAnswer
-boot_answer kind chip = ask (chip_length_allowed (length chip)) (BootRefused bad_chip_length 0) (boot_case (kind.reads chip))
+unfoldable pub boot_answer : Kind → List ℕ → Result Boot Refusal
+boot_answer kind chip = ask (chip_length_allowed (length chip)) (refused BadChipLength 0) (Ok (boot_case (kind.reads chip)))
 
 -- `boot::write`
-unfoldable pub chip_write : Kind → List ℕ → ℕ → WriteAnswer
-chip_write kind chip i = ask (chip_length_allowed (length chip)) (WriteRefused bad_chip_length 0) (nth_write (kind.lists chip (kind.reads chip)) i)
+unfoldable pub chip_write : Kind → List ℕ → ℕ → Result (Option Write) Refusal
+chip_write kind chip i = ask (chip_length_allowed (length chip)) (refused BadChipLength 0) (Ok (nth_write (kind.lists chip (kind.reads chip)) i))
 
 -- `boot::writes`
-unfoldable pub chip_listing : Kind → List ℕ → Listing
-chip_listing kind chip = ask (chip_length_allowed (length chip)) (ListingRefused bad_chip_length 0) (ListingOpen (cursor_of (kind.reads chip)))
+unfoldable pub chip_listing : Kind → List ℕ → Result Cursor Refusal
+chip_listing kind chip = ask (chip_length_allowed (length chip)) (refused BadChipLength 0) (Ok (cursor_of (kind.reads chip)))

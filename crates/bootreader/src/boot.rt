@@ -5,15 +5,15 @@ ghost use Rattle.packets.specs.Trace.{write_numbers};
 ghost use Rattle.writes.specs.Cursor.{listing_numbers};
 ghost use Rattle.bootreader.specs.Boot.{boot_numbers, boot_answer, chip_write, chip_listing};
 
-use base::refusal;
+use base::refusal::{Reason, Refusal, ask};
 use configreader::{Outcome, read_chip};
 use kind::layout::chip_length_allowed;
-use packets::trace::WriteAnswer;
-use writes::cursor::{Cursor, Listing, nth_from};
+use packets::trace::Write;
+use writes::cursor::{Cursor, nth_from};
 
-// What a chip loads, where it is stuck, or a refusal.
-#[derive(Drop)]
-pub enum BootAnswer {
+// What a chip loads, or where it is stuck.
+#[derive(Clone, Copy)]
+pub enum Boot {
     Loaded {
         sync: usize,
         end: usize,
@@ -23,83 +23,49 @@ pub enum BootAnswer {
     Stuck {
         place: usize,
     },
-    Refused {
-        number: u32,
-        place: usize,
-    },
 }
 
 // What a chip loads: the place of the last sync word, the place after the last word, the number of writes, jumped or
 // not; or where it is stuck; or refusal 1.
-pub fn answer(chip: &[u8]) -> BootAnswer
+pub fn answer(chip: &[u8]) -> Result<Boot, Refusal>
     ensures { Gives boot_numbers result (boot_answer spi chip.now) }
 {
-    if !chip_length_allowed(chip.len()) {
-        return BootAnswer::Refused {
-            number: refusal::BAD_CHIP_LENGTH,
-            place: 0,
-        };
-    }
-    let outcome = read_chip(chip);
-    match outcome {
+    ask(chip_length_allowed(chip.len()), Reason::BadChipLength)?;
+    Ok(match read_chip(chip) {
         Outcome::Loaded {
             sync,
             end,
             writes,
             jumped,
-        } => BootAnswer::Loaded {
+        } => Boot::Loaded {
             sync,
             end,
             writes,
             jumped,
         },
-        Outcome::Iprog { place } => BootAnswer::Stuck { place },
-        Outcome::Stuck { place } => BootAnswer::Stuck { place },
-    }
+        Outcome::Iprog { place } => Boot::Stuck { place },
+        Outcome::Stuck { place } => Boot::Stuck { place },
+    })
 }
 
 // The i-th write, counted from 0, of what a chip loads: register, word, place; or that there is none; or refusal 1.
-pub fn write(chip: &[u8], i: usize) -> WriteAnswer
+pub fn write(chip: &[u8], i: usize) -> Result<Option<Write>, Refusal>
     ensures { Gives write_numbers result (chip_write spi chip.now i) }
 {
-    if !chip_length_allowed(chip.len()) {
-        return WriteAnswer::Refused {
-            number: refusal::BAD_CHIP_LENGTH,
-            place: 0,
-        };
-    }
-    let outcome = read_chip(chip);
-    let Outcome::Loaded {
-        sync,
-        end: _,
-        writes: _,
-        jumped: _,
-    } = outcome
-    else {
-        return WriteAnswer::Nothing;
+    ask(chip_length_allowed(chip.len()), Reason::BadChipLength)?;
+    let Outcome::Loaded { sync, .. } = read_chip(chip) else {
+        return Ok(None);
     };
-    nth_from(chip, sync + 4, i)
+    Ok(nth_from(chip, sync + 4, i))
 }
 
 // A cursor before the first write of what a chip loads, which has none to give on a chip that is stuck; or refusal 1.
-pub fn writes(chip: &[u8]) -> Listing
+pub fn writes(chip: &[u8]) -> Result<Cursor, Refusal>
     ensures { Gives listing_numbers result (chip_listing spi chip.now) }
 {
-    if !chip_length_allowed(chip.len()) {
-        return Listing::Refused {
-            number: refusal::BAD_CHIP_LENGTH,
-            place: 0,
-        };
-    }
-    let outcome = read_chip(chip);
-    let Outcome::Loaded {
-        sync,
-        end: _,
-        writes,
-        jumped: _,
-    } = outcome
-    else {
-        return Listing::Open(Cursor::new(0, 0));
+    ask(chip_length_allowed(chip.len()), Reason::BadChipLength)?;
+    let Outcome::Loaded { sync, writes, .. } = read_chip(chip) else {
+        return Ok(Cursor::new(0, 0));
     };
-    Listing::Open(Cursor::new(sync + 4, writes))
+    Ok(Cursor::new(sync + 4, writes))
 }
