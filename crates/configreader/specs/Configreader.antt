@@ -1,8 +1,8 @@
 -- From sync to sync. Document 01, "How the configuration reader reads".
-use Rattle.std.specs.Prelude.{ℕ, zero, suc, ◌+◌, Bool, true, false, List, [], length, drop, ltb}
+use Rattle.std.specs.Prelude.{ℕ, zero, suc, ◌+◌, Bool, true, false, List, [], length, drop, ltb, Some, None}
 use Rattle.framing.specs.Search.{find}
 use Rattle.packets.specs.Trace.{finish_from, writes_from}
-use Rattle.configreader.specs.Types.{SyncAt, NoSync, FinishEnded, FinishIprog, FinishFault, FinishShort, Write, Outcome, Loaded, OutcomeIprog, Stuck}
+use Rattle.configreader.specs.Types.{FinishEnded, FinishIprog, FinishFault, FinishShort, Write, Outcome, Loaded, OutcomeIprog, Stuck}
 
 -- What a reading from a sync comes to, given what an IPROG at a place with a target does. A word not complete before the end is a fault at the length read.
 unfoldable pub read_at : (ℕ → ℕ → Outcome) → Bool → List ℕ → ℕ → Outcome
@@ -17,7 +17,7 @@ read_at on_jump jumped bytes sync =
 -- The search hands over to reading; no sync is a fault at the length read.
 unfoldable pub search_from : (ℕ → ℕ → Outcome) → Bool → List ℕ → ℕ → Outcome
 search_from on_jump jumped bytes from =
-    elim (find (drop from bytes) from) [ SyncAt sync ↦ read_at on_jump jumped bytes sync | NoSync ↦ Stuck (length bytes) ]
+    elim (find (drop from bytes) from) [ Some sync ↦ read_at on_jump jumped bytes sync | None ↦ Stuck (length bytes) ]
 
 -- A jump hands back to the search. With no jump left an IPROG is a fault, and so is a jump to the length or beyond; both at the IPROG.
 unfoldable pub jump : ℕ → List ℕ → ℕ → ℕ → Outcome

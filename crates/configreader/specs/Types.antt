@@ -1,6 +1,4 @@
 -- The types of the code that this crate's definitions and proofs name, with their cases; each has one name in the whole tree.
-pub use Rattle.framing.specs.declared.search.Found.{Found}
-pub use Rattle.framing.specs.declared.search.Found.TheVariants.{At as SyncAt, Nothing as NoSync}
 pub use Rattle.packets.specs.declared.header.Effect.{Effect}
 pub use Rattle.packets.specs.declared.header.Effect.TheVariants.{GoesOn, Desync, Iprog as EffectIprog}
 pub use Rattle.packets.specs.declared.trace.Finish.{Finish}

@@ -6,7 +6,7 @@
 ghost use Rattle.std.specs.Prelude.{◌≡◌, ◌+◌, ◌≤◌, length};
 ghost use Rattle.configreader.specs.Configreader.{read_from, read_at, jump, read_chip, read_alone};
 
-use framing::search::{Found, find_sync};
+use framing::search::find_sync;
 use packets::trace::Finish;
 use writes::reading::finish_from;
 
@@ -49,10 +49,9 @@ fn search(s: &[u8], from: usize, jumps: u32, jumped: bool) -> Outcome
     requires { from ≤ length s.now }
     ensures { result ≡ read_from jumps jumped s.now from }
 {
-    let found = find_sync(s, from);
-    match found {
-        Found::At(sync) => read(s, sync, jumps, jumped),
-        Found::Nothing => Outcome::Stuck { place: s.len() },
+    match find_sync(s, from) {
+        Some(sync) => read(s, sync, jumps, jumped),
+        None => Outcome::Stuck { place: s.len() },
     }
 }
 
@@ -61,8 +60,7 @@ fn read(s: &[u8], sync: usize, jumps: u32, jumped: bool) -> Outcome
     requires { sync + 4 ≤ length s.now }
     ensures { result ≡ read_at (jump jumps s.now) jumped s.now sync }
 {
-    let finish = finish_from(s, sync + 4);
-    match finish {
+    match finish_from(s, sync + 4) {
         Finish::Ended { end, writes } => Outcome::Loaded {
             sync,
             end,
