@@ -1,6 +1,5 @@
 -- The types of the code that this crate's definitions and proofs name, with their cases; each has one name in the whole tree.
-pub use Rattle.framing.specs.declared.search.Found.{Found}
-pub use Rattle.framing.specs.declared.search.Found.TheVariants.{At as SyncAt, Nothing as NoSync}
+pub use Rattle.base.specs.Types.{Reason, BadImageLength, ImageFault, ImageJumps, Refusal}
 pub use Rattle.packets.specs.declared.header.Effect.{Effect}
 pub use Rattle.packets.specs.declared.header.Effect.TheVariants.{GoesOn, Desync, Iprog as EffectIprog}
 pub use Rattle.packets.specs.declared.trace.Write.{Write}
@@ -9,8 +8,5 @@ pub use Rattle.packets.specs.declared.trace.Finish.TheVariants.{Ended as FinishE
 pub use Rattle.scanner.specs.declared.scan.Scanner.{Scanner}
 pub use Rattle.scanner.specs.declared.scan.Status.{Status}
 pub use Rattle.scanner.specs.declared.scan.Status.TheVariants.{Going, Reached as AtWrite, Ended as AtEnd, Iprog as AtIprog, Fault as AtFault, Short as AtShort}
-pub use Rattle.bootreader.specs.declared.image.ImageAnswer.TheVariants.{Accepted, Refused as ImageRefused}
 pub use Rattle.imagereader.specs.declared.Packet.{Packet}
-pub use Rattle.imagereader.specs.declared.PacketAnswer.{PacketAnswer}
-pub use Rattle.imagereader.specs.declared.PacketAnswer.TheVariants.{Found as PacketFound, End as PacketEnd, Refused as PacketRefused}
 pub use Rattle.imagereader.specs.declared.Reader.{Reader}

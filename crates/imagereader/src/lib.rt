@@ -8,11 +8,12 @@ ghost use Rattle.framing.specs.Words.{words};
 ghost use Rattle.base.specs.Answer.{Gives};
 ghost use Rattle.packets.specs.Header.{effect_of};
 ghost use Rattle.packets.specs.Trace.{payload, trace, trace_from};
-ghost use Rattle.imagereader.specs.Imagereader.{packet_numbers, first_packet, packet_at, first_place, place_after, reader_at, next_of, reader_after};
-ghost use Rattle.imagereader.specs.Internal.{stop_answer, end_answer, next_result};
+ghost use Rattle.imagereader.specs.Imagereader.{packet_numbers, first_packet, packet_at, first_place, reader_at, next_of, reader_after};
+ghost use Rattle.imagereader.specs.Internal.{stop_answer, end_answer};
 
-use base::{min, refusal};
-use framing::search::{Found, find_sync};
+use base::min;
+use base::refusal::{Reason, Refusal, ask};
+use framing::search::find_sync;
 use framing::words::{word_at, words_from};
 use kind::layout::image_length_allowed;
 use kind::spi::Spi;
@@ -30,14 +31,6 @@ pub struct Packet {
     pub next: usize,
 }
 
-// The next packet, or that all were given, or a refusal.
-#[derive(Clone, Copy)]
-pub enum PacketAnswer {
-    Found(Packet),
-    End,
-    Refused { number: u32, place: usize },
-}
-
 // An image, and where its next packet begins.
 #[derive(Clone, Copy)]
 pub struct Reader<'a> {
@@ -45,38 +38,30 @@ pub struct Reader<'a> {
     pub at: usize,
 }
 
-// What a reader gives next, and its place after that.
-#[derive(Drop)]
-struct NextResult {
-    answer: PacketAnswer,
-    at: usize,
-}
-
 // The packet that ends with the data word after `run` more, one that does not let the reading go on.
-fn ended_packet(image: &[u8], register: u32, first: usize, run: usize) -> PacketAnswer
+fn ended_packet(image: &[u8], register: u32, first: usize, run: usize) -> Result<Option<Packet>, Refusal>
     requires { first + 4 * run + 4 ≤ length image.now }
     ensures { result ≡ end_answer image.now register first run (effect_of register (get_or (words (drop first image.now)) run 0)) }
 {
     let place = first + 4 * run;
     let count = run + 1;
     let next = image.len() + 1;
-    let number = refusal::IMAGE_JUMPS;
-    let effect = effect_of(register, word_at(image, place));
-    match effect {
-        Effect::Desync => PacketAnswer::Found(Packet {
+    let reason = Reason::ImageJumps;
+    match effect_of(register, word_at(image, place)) {
+        Effect::Desync => Ok(Some(Packet {
             register,
             first,
             count,
             next,
-        }),
-        Effect::Iprog => PacketAnswer::Refused { number, place },
+        })),
+        Effect::Iprog => Err(Refusal { reason, place }),
         // never met by `whole_packet`, which asks only at a word that does not let the reading go on
-        Effect::GoesOn => PacketAnswer::End,
+        Effect::GoesOn => Ok(None),
     }
 }
 
 // The packet whose first data word is at `first`, with `left` more behind it.
-fn whole_packet(image: &[u8], register: u32, first: usize, left: usize) -> PacketAnswer
+fn whole_packet(image: &[u8], register: u32, first: usize, left: usize) -> Result<Option<Packet>, Refusal>
     requires { first + 4 ≤ length image.now }
     ensures { result ≡ first_packet image.now (trace (words (drop first image.now)) first (payload register left)) }
 {
@@ -86,47 +71,47 @@ fn whole_packet(image: &[u8], register: u32, first: usize, left: usize) -> Packe
         return ended_packet(image, register, first, run);
     }
     if run <= left {
-        return PacketAnswer::Refused {
-            number: refusal::IMAGE_FAULT,
+        return Err(Refusal {
+            reason: Reason::ImageFault,
             place: image.len(),
-        };
+        });
     }
     let next = first + 4 * run;
-    PacketAnswer::Found(Packet {
+    Ok(Some(Packet {
         register,
         first,
         count: run,
         next,
-    })
+    }))
 }
 
 // What a scanner for the next write is at where there is none.
-fn stop_answer(image: &[u8], w: Scanner) -> PacketAnswer
+fn stop_answer(image: &[u8], w: Scanner) -> Result<Option<Packet>, Refusal>
     ensures { result ≡ stop_answer image.now w }
 {
     let status = w.status;
     match status {
-        Status::Fault => PacketAnswer::Refused {
-            number: refusal::IMAGE_FAULT,
+        Status::Fault => Err(Refusal {
+            reason: Reason::ImageFault,
             place: w.at,
-        },
-        Status::Short => PacketAnswer::Refused {
-            number: refusal::IMAGE_FAULT,
+        }),
+        Status::Short => Err(Refusal {
+            reason: Reason::ImageFault,
             place: image.len(),
-        },
-        Status::Iprog => PacketAnswer::Refused {
-            number: refusal::IMAGE_JUMPS,
+        }),
+        Status::Iprog => Err(Refusal {
+            reason: Reason::ImageJumps,
             place: w.at,
-        },
-        Status::Ended => PacketAnswer::End,
+        }),
+        Status::Ended => Ok(None),
         // neither is at an end: `first_packet` asks only of a scanner that is
-        Status::Going => PacketAnswer::End,
-        Status::Reached => PacketAnswer::End,
+        Status::Going => Ok(None),
+        Status::Reached => Ok(None),
     }
 }
 
 // The first packet with data words from a place on.
-fn first_packet(image: &[u8], at: usize) -> PacketAnswer
+fn first_packet(image: &[u8], at: usize) -> Result<Option<Packet>, Refusal>
     ensures { result ≡ first_packet image.now (trace_from image.now at) }
 {
     let w = scan(image, at, 0);
@@ -138,54 +123,23 @@ fn first_packet(image: &[u8], at: usize) -> PacketAnswer
 }
 
 // What is at a place of an image: the end of the packets, or the first packet from there; or refusal 4, 5 or 6.
-fn packet_at(image: &[u8], at: usize) -> PacketAnswer
+fn packet_at(image: &[u8], at: usize) -> Result<Option<Packet>, Refusal>
     ensures { result ≡ packet_at image.now at }
 {
-    if !image_length_allowed(Spi::LONGEST, image.len()) {
-        return PacketAnswer::Refused {
-            number: refusal::BAD_IMAGE_LENGTH,
-            place: 0,
-        };
-    }
+    ask(image_length_allowed(Spi::LONGEST, image.len()), Reason::BadImageLength)?;
     if image.len() < at {
-        return PacketAnswer::End;
+        return Ok(None);
     }
     first_packet(image, at)
-}
-
-// Where a reader is after an answer: at the end and at a fault it stays.
-fn place_after(answer: PacketAnswer, at: usize) -> usize
-    ensures { result ≡ place_after answer at }
-{
-    match answer {
-        PacketAnswer::Found(packet) => packet.next,
-        PacketAnswer::End => at,
-        PacketAnswer::Refused {
-            number: _,
-            place: _,
-        } => at,
-    }
-}
-
-// What a reader of an image at a place gives, and its place after that.
-fn next_result(image: &[u8], at: usize) -> NextResult
-    ensures { result ≡ next_result image.now at }
-{
-    let answer = packet_at(image, at);
-    NextResult {
-        answer,
-        at: place_after(answer, at),
-    }
 }
 
 // Where the first packet of an image begins: after its sync word, or where its bytes run out.
 fn first_place(image: &[u8]) -> usize
     ensures { result ≡ first_place image.now }
 {
-    let found = find_sync(image, 0);
-    match found {
-        Found::At(sync) => sync + 4,
-        Found::Nothing => image.len(),
+    match find_sync(image, 0) {
+        Some(sync) => sync + 4,
+        None => image.len(),
     }
 }
 
@@ -199,12 +153,14 @@ impl<'a> Reader<'a> {
     }
 
     // The next packet, and the reader moves past it; or that all were given, or refusal 4, 5 or 6, and the reader stays.
-    pub fn next<'s>(&'s mut self) -> PacketAnswer
+    pub fn next<'s>(&'s mut self) -> Result<Option<Packet>, Refusal>
         ensures { Gives packet_numbers result (next_of self.old) × (self.new ≡ reader_after self.old) }
     {
-        let taken = next_result(self.image, self.at);
-        self.at = taken.at;
-        taken.answer
+        let next = packet_at(self.image, self.at)?;
+        if let Some(packet) = next {
+            self.at = packet.next;
+        }
+        Ok(next)
     }
 
     // The reader's place: where the next packet begins, or the place after all bytes where all were given.
@@ -216,7 +172,7 @@ impl<'a> Reader<'a> {
 }
 
 // What a reader of an image gives first: its first packet; or refusal 4, 5 or 6.
-pub fn first_from(image: &[u8]) -> PacketAnswer
+pub fn first_from(image: &[u8]) -> Result<Option<Packet>, Refusal>
     ensures { Gives packet_numbers result (packet_at image.now (first_place image.now)) }
 {
     let mut reader = Reader::new(image);
@@ -224,7 +180,7 @@ pub fn first_from(image: &[u8]) -> PacketAnswer
 }
 
 // What a reader of an image at a place gives next: the packet, or that all were given, or refusal 4, 5 or 6.
-pub fn next_from(image: &[u8], at: usize) -> PacketAnswer
+pub fn next_from(image: &[u8], at: usize) -> Result<Option<Packet>, Refusal>
     ensures { Gives packet_numbers result (packet_at image.now at) }
 {
     let mut reader = Reader { image, at };
