@@ -1,7 +1,6 @@
 -- Pairs of digits by their place in the text. Only contracts of functions that are no public calls cite it.
-use Rattle.std.specs.Prelude.{ℕ, zero, suc, ◌+◌, ◌*◌, ◌<◌, ◌≡◌, List, [], ◌∷◌, get_or}
+use Rattle.std.specs.Prelude.{ℕ, zero, suc, ◌+◌, ◌*◌, ◌<◌, ◌≡◌, List, [], ◌∷◌, get_or, Option, Some, None}
 use Rattle.digits.specs.Digit.{digit_of, byte_sum}
-use Rattle.digits.specs.Types.{Sum, SumOf, SumBroken}
 
 abbrev pub pair_at : List ℕ → ℕ → ℕ
 pair_at text at = 16 * digit_of (get_or text at 0) + digit_of (get_or text (at + 1) 0)
@@ -21,6 +20,6 @@ pairs_at text at zero = []
 pairs_at text at (suc count) = pair_at text at ∷ pairs_at text (at + 2) count
 
 -- what a sum of pairs says of them
-unfoldable pub Summed : List ℕ → ℕ → ℕ → Sum → Type 0
-Summed text at count (SumOf sum) = ArePairs text at count × (sum ≡ byte_sum (pairs_at text at count))
-Summed text at count SumBroken = ArePairs text at count → ⊥
+unfoldable pub Summed : List ℕ → ℕ → ℕ → Option ℕ → Type 0
+Summed text at count (Some sum) = ArePairs text at count × (sum ≡ byte_sum (pairs_at text at count))
+Summed text at count None = ArePairs text at count → ⊥

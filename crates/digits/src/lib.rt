@@ -1,6 +1,6 @@
-// Capital hexadecimal digits: a digit both ways and a pair (`digit`), many pairs (`pairs`), and the table that a digit's
-// value is looked up in (`table`). For the crates above it alone: its functions ask their caller for the table and for
-// places within the text.
+// Capital hexadecimal digits: their characters (`digit`), the table that a digit's value is looked up in (`table`), and
+// what it says of pairs of them (`pairs`). For the crates above it alone: its functions ask their caller for places within
+// the text.
 
 #![tactic(auto)]
 

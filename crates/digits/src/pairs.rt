@@ -1,48 +1,55 @@
-// Many pairs of digits, one after the other: what they add to, and the bytes that they make.
+// Pairs of digits: the byte that one makes, and of many, one after the other, what they add to and the bytes that they make.
 ghost use Rattle.std.specs.Prelude.{◌≡◌, ◌+◌, ◌*◌, ◌≤◌, length};
 ghost use Rattle.std.proofs.Math.Seq.{paste};
-ghost use Rattle.digits.specs.Table.{DigitTable};
-ghost use Rattle.digits.specs.Pairs.{ArePairs, pairs_at, Summed};
+ghost use Rattle.digits.specs.Pairs.{pair_at, two_pairs_at, ArePairs, pairs_at, Summed};
 
-use crate::digit::{digit, pair};
+use crate::table::Digits;
 
-// What pairs add to, or that one of them is none.
-#[derive(Drop)]
-pub enum Sum {
-    Of(u32),
-    Broken,
-}
-
-// What `count` pairs from `at` on add to.
-pub fn sum_pairs(values: &[u8], text: &[u8], at: usize, count: usize) -> Sum
-    requires { (at + 2 * count ≤ length text.now) × (count ≤ 277) × DigitTable values.now }
-    ensures { Summed text.now at count result }
-{
-    let mut sum = 0;
-    let mut i = 0;
-    while i < count {
-        let high = digit(values, text[at + 2 * i]);
-        let low = digit(values, text[at + 2 * i + 1]);
-        if 15 < high {
-            return Sum::Broken;
-        }
-        if 15 < low {
-            return Sum::Broken;
-        }
-        sum += 16 * high + low;
-        i += 1;
+impl Digits {
+    // The byte that two digits make. Where one of them is none, a number that no caller uses.
+    pub fn pair(&self, text: &[u8], at: usize) -> u32
+        requires { at + 2 ≤ length text.now }
+        ensures value { result ≡ pair_at text.now at }
+        ensures range { result ≤ 272 }
+    {
+        16 * self.digit(text[at]) + self.digit(text[at + 1])
     }
-    Sum::Of(sum)
-}
 
-// Decodes pairs from `from` into as many bytes at `to`.
-pub fn decode(values: &[u8], text: &[u8], from: usize, out: &mut [u8], to: usize, bytes: usize)
-    requires { (from + 2 * bytes ≤ length text.now) × (to + bytes ≤ length out.old) × ArePairs text.now from bytes × DigitTable values.now }
-    ensures { out.new ≡ paste out.old to (pairs_at text.now from bytes) bytes }
-{
-    let mut i = 0;
-    while i < bytes {
-        out[to + i] = (pair(values, text, from + 2 * i) % 256) as u8;
-        i += 1;
+    // Two pairs as a number, high byte first.
+    pub fn two_pairs(&self, text: &[u8], at: usize) -> u32
+        requires { at + 4 ≤ length text.now }
+        ensures { result ≡ two_pairs_at text.now at }
+    {
+        self.pair(text, at) * 256 + self.pair(text, at + 2)
+    }
+
+    // What `count` pairs from `at` on add to; none where one of them is no pair.
+    pub fn sum_pairs(&self, text: &[u8], at: usize, count: usize) -> Option<u32>
+        requires { (at + 2 * count ≤ length text.now) × (count ≤ 277) }
+        ensures { Summed text.now at count result }
+    {
+        let mut sum = 0;
+        for i in 0..count {
+            let high = self.digit(text[at + 2 * i]);
+            let low = self.digit(text[at + 2 * i + 1]);
+            if 15 < high {
+                return None;
+            }
+            if 15 < low {
+                return None;
+            }
+            sum += 16 * high + low;
+        }
+        Some(sum)
+    }
+
+    // Decodes pairs from `from` into as many bytes at `to`.
+    pub fn decode(&self, text: &[u8], from: usize, out: &mut [u8], to: usize, bytes: usize)
+        requires { (from + 2 * bytes ≤ length text.now) × (to + bytes ≤ length out.old) × ArePairs text.now from bytes }
+        ensures { out.new ≡ paste out.old to (pairs_at text.now from bytes) bytes }
+    {
+        for i in 0..bytes {
+            out[to + i] = (self.pair(text, from + 2 * i) % 256) as u8;
+        }
     }
 }

@@ -1,4 +1,6 @@
 // The values of all characters as digits.
+ghost use Rattle.std.specs.Prelude.{◌≡◌, ◌≤◌};
+ghost use Rattle.digits.specs.Digit.{digit_of};
 ghost use Rattle.digits.specs.Table.{DigitTable};
 
 // The value of each character as a capital hexadecimal digit, 16 where it is none. It is a table
@@ -18,9 +20,23 @@ const VALUES: [u8; 256] = [
     16, 16, 16, 16, 16, 16, 16, 16, 16, 16, 16, 16, 16, 16,
 ];
 
-// The table, for a caller to take into memory once and lend: a constant array is made anew at each use.
-pub fn digit_values() -> [u8; 256]
-    ensures { DigitTable result }
-{
-    VALUES
+// The table. A caller makes one and lends it: a constant array is made anew at each use.
+#[derive(Drop)]
+pub struct Digits {
+    values: [u8; 256],
+    pub ghost are_digits: { DigitTable values },
+}
+
+impl Digits {
+    pub fn new() -> Self {
+        Digits { values: VALUES }
+    }
+
+    // The value of a character as a digit, 16 where it is none.
+    pub(crate) fn digit(&self, c: u8) -> u32
+        ensures value { result ≡ digit_of c }
+        ensures range { result ≤ 16 }
+    {
+        self.values[c as usize] as u32
+    }
 }
