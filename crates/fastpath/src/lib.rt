@@ -9,7 +9,7 @@ ghost use Rattle.fastpath.specs.Types.{GoesOn, Type1};
 ghost use Rattle.scanner.specs.Scan.{AtHeader};
 ghost use Rattle.fastpath.specs.Fastpath.{NOP, PacketBegins, CountedBegins, SkipKeeps};
 
-use base::min;
+use std::cmp::min;
 use framing::words::{word_at, words_from};
 use packets::header::{CMD, NOP, is_plain_register, is_type1_form, is_type2_write, register_ok};
 use scanner::scan::{Scanner, after_header, after_packet, count_plain_words};

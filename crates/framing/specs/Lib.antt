@@ -1,4 +1,3 @@
 -- What the contracts of this crate say: where the sync word is, and the words after it.
-pub mod Types
 pub mod Search
 pub mod Words

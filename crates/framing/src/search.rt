@@ -4,13 +4,6 @@ ghost use Rattle.framing.specs.Search.{sync_bytes, find};
 
 const SYNC: [u8; 4] = [0xAA, 0x99, 0x55, 0x66];
 
-// Where a search ended.
-#[derive(Drop)]
-pub enum Found {
-    At(usize),
-    Nothing,
-}
-
 // How far on the next place is at which a sync word can begin, when one that ends in `last` does
 // not begin here: the bytes between cannot match `last`.
 fn skip_after(last: u8) -> usize
@@ -32,12 +25,10 @@ fn is_clear(s: &[u8], at: usize) -> bool
     ensures { result ≡ true → (i : ℕ) → i < 32 → get_or s.now (at + i) 0 ≡ get_or sync_bytes 0 0 → ⊥ }
 {
     let mut clear = true;
-    let mut i = 0;
-    while i < 32 {
+    for i in 0..32 {
         if s[at + i] == 0xAA {
             clear = false;
         }
-        i += 1;
     }
     clear
 }
@@ -48,10 +39,7 @@ fn past_clear(s: &[u8], from: usize) -> usize
     ensures { (from ≤ result) × (result ≤ length s.now) × (find (drop result s.now) result ≡ find (drop from s.now) from) }
 {
     let mut at = from;
-    while s.len() - at >= 32 {
-        if !is_clear(s, at) {
-            return at;
-        }
+    while s.len() - at >= 32 && is_clear(s, at) {
         at += 32;
     }
     at
@@ -59,24 +47,19 @@ fn past_clear(s: &[u8], from: usize) -> usize
 
 // The first place at or after `from` where four bytes read AA 99 55 66, at any byte. Where they do
 // not, the fourth says how far on the next place is at which they can: four bytes, mostly.
-pub fn find_sync(s: &[u8], from: usize) -> Found
+pub fn find_sync(s: &[u8], from: usize) -> Option<usize>
     requires { from ≤ length s.now }
     ensures { result ≡ find (drop from s.now) from }
 {
     let mut at = from;
-    'search: loop {
+    loop {
         at = past_clear(s, at);
         if s.len() - at < 4 {
-            break 'search Found::Nothing;
+            return None;
         }
-        let mut i = 0;
-        while i < 4 {
-            if s[at + i] != SYNC[i] {
-                at += skip_after(s[at + 3]);
-                continue 'search;
-            }
-            i += 1;
+        if s[at..].starts_with(&SYNC) {
+            return Some(at);
         }
-        break 'search Found::At(at);
+        at += skip_after(s[at + 3]);
     }
 }

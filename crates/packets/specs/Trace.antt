@@ -1,10 +1,12 @@
 -- Words to packets to writes. Document 01, "How the configuration reader reads".
-use Rattle.std.specs.Prelude.{ℕ, zero, suc, ◌+◌, ◌%◌, ◌^◌, true, false, List, [], ◌∷◌, map, drop, eqb}
-use Rattle.std.proofs.Math.Option.{Option, some, none}
-use Rattle.base.specs.Answer.{Numbered, result, refusal}
+use Rattle.std.specs.Prelude.{ℕ, zero, suc, ◌+◌, ◌%◌, ◌^◌, true, false, List, [], ◌∷◌, map, drop, eqb, Option, Some, None, option_map, Result}
+use Rattle.std.proofs.Math.Option as maybe
+use Rattle.std.proofs.Math.Option.{some, none}
+use Rattle.base.specs.Types.{Refusal}
+use Rattle.base.specs.Answer.{Numbered, in_numbers}
 use Rattle.framing.specs.Words.{words}
 use Rattle.packets.specs.Header.{head_of, effect_of, WBSTAR}
-use Rattle.packets.specs.Types.{Header, Nop, Type1, Type2, BadHeader, GoesOn, Desync, EffectIprog, Finish, FinishEnded, FinishIprog, FinishFault, FinishShort, Write, WriteAnswer, WriteFound, NoWrite, WriteRefused}
+use Rattle.packets.specs.Types.{Header, Nop, Type1, Type2, BadHeader, GoesOn, Desync, EffectIprog, Finish, FinishEnded, FinishIprog, FinishFault, FinishShort, Write}
 
 -- What the word just before a header allows: a type 1 write header of count 0 opens its register to a type 2 header, every other word opens none.
 pub data Before : Type 0 where
@@ -22,7 +24,7 @@ mode_of zero register before = header before
 mode_of (suc more) register before = payload register more
 
 -- A type 2 header uses the register of the word just before it, which must be a type 1 write header of count 0.
-unfoldable pub after_header : Header → Before → Option Mode
+unfoldable pub after_header : Header → Before → maybe.Option Mode
 after_header Nop before = some (header other)
 after_header (Type1 register count) before = some (mode_of count register (opened register))
 after_header (Type2 count) (opened register) = some (mode_of count register other)
@@ -88,20 +90,20 @@ writes_from bytes from = list_of (trace_from bytes from)
 abbrev pub contents : List Write → List (ℕ × ℕ)
 contents writes = map (λ w. (w.register, w.word)) writes
 
--- in numbers: 1, register, word, place; 0 where there is none
-unfoldable pub write_numbers : WriteAnswer → Numbered
-write_numbers (WriteFound write) = result (1 ∷ write.register ∷ write.word ∷ write.place ∷ [])
-write_numbers NoWrite = result (0 ∷ [])
-write_numbers (WriteRefused number place) = refusal number place
+-- the values of an answer: 1, register, word, place; 0 where there is none
+abbrev pub write_values : Option Write → List ℕ
+write_values (Some write) = 1 ∷ write.register ∷ write.word ∷ write.place ∷ []
+write_values None = 0 ∷ []
+
+abbrev pub write_numbers : Result (Option Write) Refusal → Numbered
+write_numbers = in_numbers write_values
 
 -- the i-th, counted from 0, or that there is none
-unfoldable pub nth_write : List Write → ℕ → WriteAnswer
-nth_write [] i = NoWrite
-nth_write (write ∷ more) zero = WriteFound write
+unfoldable pub nth_write : List Write → ℕ → Option Write
+nth_write [] i = None
+nth_write (write ∷ more) zero = Some write
 nth_write (write ∷ more) (suc i) = nth_write more i
 
 -- a write that was fetched, its place apart
-unfoldable pub content_of : WriteAnswer → Option (ℕ × ℕ)
-content_of (WriteFound write) = some (write.register, write.word)
-content_of NoWrite = none
-content_of (WriteRefused number place) = none
+abbrev pub content_of : Option Write → Option (ℕ × ℕ)
+content_of write = option_map (λ w. (w.register, w.word)) write

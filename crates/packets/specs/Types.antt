@@ -6,5 +6,3 @@ pub use Rattle.packets.specs.declared.header.Header.TheVariants.{Nop, Type1, Typ
 pub use Rattle.packets.specs.declared.trace.Finish.{Finish}
 pub use Rattle.packets.specs.declared.trace.Finish.TheVariants.{Ended as FinishEnded, Iprog as FinishIprog, Fault as FinishFault, Short as FinishShort}
 pub use Rattle.packets.specs.declared.trace.Write.{Write}
-pub use Rattle.packets.specs.declared.trace.WriteAnswer.{WriteAnswer}
-pub use Rattle.packets.specs.declared.trace.WriteAnswer.TheVariants.{Found as WriteFound, Nothing as NoWrite, Refused as WriteRefused}

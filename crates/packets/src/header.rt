@@ -15,7 +15,7 @@ const DESYNC: u32 = 0x0000_000D;
 const IPROG: u32 = 0x0000_000F;
 
 // What a word says as a header.
-#[derive(Drop)]
+#[derive(Clone, Copy, PartialEq, Eq)]
 pub enum Header {
     Nop,
     Type1 { register: u32, count: u32 },
@@ -24,7 +24,7 @@ pub enum Header {
 }
 
 // What a data word does to the reading.
-#[derive(Drop)]
+#[derive(Clone, Copy, PartialEq, Eq)]
 pub enum Effect {
     GoesOn,
     Desync,

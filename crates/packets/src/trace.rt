@@ -8,16 +8,8 @@ pub struct Write {
     pub place: usize,
 }
 
-// The i-th write, or that there is none, or a refusal.
-#[derive(Drop)]
-pub enum WriteAnswer {
-    Found(Write),
-    Nothing,
-    Refused { number: u32, place: usize },
-}
-
 // How a reading of packets ends.
-#[derive(Drop)]
+#[derive(Clone, Copy, PartialEq, Eq)]
 pub enum Finish {
     // DESYNC: the place after it, and the number of writes.
     Ended { end: usize, writes: usize },

@@ -4,8 +4,6 @@ pub use Rattle.packets.specs.declared.header.Effect.TheVariants.{GoesOn, Desync,
 pub use Rattle.packets.specs.declared.trace.Write.{Write}
 pub use Rattle.packets.specs.declared.trace.Finish.{Finish}
 pub use Rattle.packets.specs.declared.trace.Finish.TheVariants.{Ended as FinishEnded, Iprog as FinishIprog, Fault as FinishFault, Short as FinishShort}
-pub use Rattle.packets.specs.declared.trace.WriteAnswer.{WriteAnswer}
-pub use Rattle.packets.specs.declared.trace.WriteAnswer.TheVariants.{Found as WriteFound, Nothing as NoWrite}
 pub use Rattle.scanner.specs.declared.scan.Scanner.{Scanner}
 pub use Rattle.scanner.specs.declared.scan.Status.{Status}
 pub use Rattle.scanner.specs.declared.scan.Status.TheVariants.{Going, Reached as AtWrite, Ended as AtEnd, Iprog as AtIprog, Fault as AtFault, Short as AtShort}

@@ -6,12 +6,12 @@ ghost use Rattle.packets.specs.Header.{effect_of};
 ghost use Rattle.scanner.specs.Types.{GoesOn, Going};
 ghost use Rattle.scanner.specs.Scan.{scanner_from, scanner_after_header, scanner_stopped, scanner_at_end, scanner_at_write, scanner_after_packet, StepKeeps, AtHeader};
 
-use base::min;
+use std::cmp::min;
 use framing::words::{word_at, words_from};
 use packets::header::{CMD, Effect, Header, WBSTAR, effect_of, header_of};
 
 // Whether a scanner goes on, or what it is at.
-#[derive(Clone, Copy)]
+#[derive(Clone, Copy, PartialEq, Eq)]
 pub enum Status {
     Going,
     Reached,
@@ -47,15 +47,12 @@ pub fn count_plain_words(s: &[u8], at: usize, register: u32, most: usize) -> usi
     if register != CMD {
         return most;
     }
-    let mut i = 0;
-    while i < most {
-        let effect = effect_of(register, word_at(s, at + 4 * i));
-        let Effect::GoesOn = effect else {
+    for i in 0..most {
+        if effect_of(register, word_at(s, at + 4 * i)) != Effect::GoesOn {
             return i;
-        };
-        i += 1;
+        }
     }
-    i
+    most
 }
 
 // The scanner after a header at its place, with `left` data words for `register` to come.
@@ -68,10 +65,8 @@ pub fn after_header(w: Scanner, register: u32, left: usize, opened: bool) -> Sca
         register,
         left,
         opened,
-        skip: w.skip,
-        writes: w.writes,
-        wbstar: w.wbstar,
         status: Status::Going,
+        ..w
     }
 }
 
@@ -81,13 +76,10 @@ fn stopped(w: Scanner, at: usize, writes: usize, status: Status) -> Scanner
 {
     Scanner {
         at,
-        register: w.register,
-        left: w.left,
         opened: false,
-        skip: w.skip,
         writes,
-        wbstar: w.wbstar,
         status,
+        ..w
     }
 }
 
@@ -99,8 +91,7 @@ pub fn header_step(s: &[u8], w: Scanner) -> Scanner
     if words_from(s, at) == 0 {
         return stopped(w, at, 0, Status::Short);
     }
-    let header = header_of(word_at(s, at));
-    match header {
+    match header_of(word_at(s, at)) {
         Header::Nop => after_header(w, 0, 0, false),
         Header::Type1 { register, count } => after_header(w, register, count as usize, true),
         Header::Type2 { count } => {
@@ -119,8 +110,7 @@ fn scan_end(s: &[u8], w: Scanner, run: usize) -> Scanner
     ensures { result ≡ scanner_at_end w run (effect_of w.register (get_or (words (drop w.at s.now)) run 0)) }
 {
     let place = w.at + 4 * run;
-    let effect = effect_of(w.register, word_at(s, place));
-    match effect {
+    match effect_of(w.register, word_at(s, place)) {
         Effect::Desync => stopped(w, place + 4, w.writes + run + 1, Status::Ended),
         Effect::Iprog => stopped(w, place, 0, Status::Iprog),
         // never met by `data_step`, which asks only at a word that does not let the reading go on
@@ -135,13 +125,13 @@ fn reached(w: Scanner, run: usize) -> Scanner
 {
     Scanner {
         at: w.at + 4 * run,
-        register: w.register,
         left: w.left - 1 - run,
         opened: false,
         skip: 0,
         writes: 0,
         wbstar: 0,
         status: Status::Reached,
+        ..w
     }
 }
 

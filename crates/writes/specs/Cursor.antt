@@ -1,10 +1,11 @@
 -- A cursor over the writes: what it still has to give, and its next step.
-use Rattle.std.specs.Prelude.{ℕ, zero, suc, ◌+◌, List, [], ◌∷◌, drop, take}
-use Rattle.base.specs.Answer.{Numbered, result, refusal}
+use Rattle.std.specs.Prelude.{ℕ, zero, suc, ◌+◌, List, [], ◌∷◌, drop, take, Option, Some, None, Result}
+use Rattle.base.specs.Types.{Refusal}
+use Rattle.base.specs.Answer.{Numbered, result, in_numbers}
 use Rattle.framing.specs.Words.{words}
 use Rattle.packets.specs.Header.{effect_of}
 use Rattle.packets.specs.Trace.{other, Trace, wrote, desync, iprog, faulty, short, trace, mode_of, list_of}
-use Rattle.writes.specs.Types.{GoesOn, Desync, EffectIprog, Write, Cursor, CursorStep, Wrote, Done, Listing, ListingOpen, ListingRefused}
+use Rattle.writes.specs.Types.{GoesOn, Desync, EffectIprog, Write, Cursor, Step}
 
 -- a cursor before the first of `writes` writes of the packets from a place
 abbrev pub cursor_at : ℕ → ℕ → Cursor
@@ -28,34 +29,33 @@ after_write write left remaining = record {
 }
 
 -- the first write of a trace, with the cursor after it
-unfoldable pub first_of : Trace → ℕ → CursorStep
-first_of (wrote write left more) remaining = Wrote write (after_write write left remaining)
-first_of (desync end) remaining = Done
-first_of (iprog place) remaining = Done
-first_of (faulty place) remaining = Done
-first_of short remaining = Done
+unfoldable pub first_of : Trace → ℕ → Option Step
+first_of (wrote write left more) remaining = Some (record { write = write; cursor = after_write write left remaining })
+first_of (desync end) remaining = None
+first_of (iprog place) remaining = None
+first_of (faulty place) remaining = None
+first_of short remaining = None
 
 -- in numbers: 1, the write's register, word and place, and the cursor after it; 0 where there is none
-unfoldable pub step_numbers : CursorStep → Numbered
-step_numbers (Wrote write c) = result (1 ∷ write.register ∷ write.word ∷ write.place ∷ c.at ∷ c.register ∷ c.left ∷ c.remaining ∷ [])
-step_numbers Done = result (0 ∷ [])
+unfoldable pub step_numbers : Option Step → Numbered
+step_numbers (Some (record { write = write; cursor = c })) = result (1 ∷ write.register ∷ write.word ∷ write.place ∷ c.at ∷ c.register ∷ c.left ∷ c.remaining ∷ [])
+step_numbers None = result (0 ∷ [])
 
 -- a listing in numbers: its cursor's
-unfoldable pub listing_numbers : Listing → Numbered
-listing_numbers (ListingOpen c) = result (c.at ∷ c.register ∷ c.left ∷ c.remaining ∷ [])
-listing_numbers (ListingRefused number place) = refusal number place
+abbrev pub listing_numbers : Result Cursor Refusal → Numbered
+listing_numbers = in_numbers (λ c. c.at ∷ c.register ∷ c.left ∷ c.remaining ∷ [])
 
 -- `Cursor::step`: the first write of the words from where the cursor is, unless none remains
-unfoldable pub step_of : List ℕ → Cursor → CursorStep
-step_of bytes c = elim c.remaining [ zero ↦ Done | suc remaining ↦ first_of (trace_at bytes c) remaining ]
+unfoldable pub step_of : List ℕ → Cursor → Option Step
+step_of bytes c = elim c.remaining [ zero ↦ None | suc remaining ↦ first_of (trace_at bytes c) remaining ]
 
 -- what a step tells of the writes still to come: its own, and then those of the cursor that it hands back
-unfoldable pub writes_after_step : List ℕ → CursorStep → List Write
-writes_after_step bytes (Wrote write c) = write ∷ remaining_writes bytes c
-writes_after_step bytes Done = []
+unfoldable pub writes_after_step : List ℕ → Option Step → List Write
+writes_after_step bytes (Some step) = step.write ∷ remaining_writes bytes step.cursor
+writes_after_step bytes None = []
 
 -- the k-th step, counted from 0
-unfoldable pub nth_step : List ℕ → ℕ → CursorStep → CursorStep
+unfoldable pub nth_step : List ℕ → ℕ → Option Step → Option Step
 nth_step bytes zero step = step
-nth_step bytes (suc k) (Wrote write c) = nth_step bytes k (step_of bytes c)
-nth_step bytes (suc k) Done = Done
+nth_step bytes (suc k) (Some step) = nth_step bytes k (step_of bytes step.cursor)
+nth_step bytes (suc k) None = None

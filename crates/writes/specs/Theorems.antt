@@ -1,13 +1,12 @@
 -- What is proved of a cursor: its steps give the writes that it has to give, one by one.
-use Rattle.std.specs.Prelude.{ℕ, ◌≡◌, List}
+use Rattle.std.specs.Prelude.{ℕ, ◌≡◌, List, Option, option_map}
 use Rattle.packets.specs.Trace.{nth_write}
 use Rattle.writes.specs.Cursor.{remaining_writes, step_of, writes_after_step, nth_step}
-use Rattle.writes.specs.Types.{WriteAnswer, WriteFound, NoWrite, Cursor, CursorStep, Wrote, Done}
+use Rattle.writes.specs.Types.{Write, Cursor, Step}
 
 -- the write that a step gives, or that there is none
-unfoldable pub step_write : CursorStep → WriteAnswer
-step_write (Wrote write c) = WriteFound write
-step_write Done = NoWrite
+abbrev pub step_write : Option Step → Option Write
+step_write step = option_map (λ s. s.write) step
 
 -- A cursor's steps give the writes that remain, in order.
 pub record CursorSteps : Type 0 where

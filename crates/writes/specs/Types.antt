@@ -3,14 +3,8 @@ pub use Rattle.packets.specs.declared.header.Effect.{Effect}
 pub use Rattle.packets.specs.declared.header.Effect.TheVariants.{GoesOn, Desync, Iprog as EffectIprog}
 pub use Rattle.packets.specs.declared.header.Header.TheVariants.{Type1}
 pub use Rattle.packets.specs.declared.trace.Write.{Write}
-pub use Rattle.packets.specs.declared.trace.WriteAnswer.{WriteAnswer}
-pub use Rattle.packets.specs.declared.trace.WriteAnswer.TheVariants.{Found as WriteFound, Nothing as NoWrite}
 pub use Rattle.scanner.specs.declared.scan.Scanner.{Scanner}
 pub use Rattle.scanner.specs.declared.scan.Status.TheVariants.{Going, Reached as AtWrite}
 pub use Rattle.writes.specs.declared.cursor.Cursor.{Cursor}
-pub use Rattle.writes.specs.declared.cursor.CursorStep.{CursorStep}
-pub use Rattle.writes.specs.declared.cursor.CursorStep.TheVariants.{Wrote, Done}
-pub use Rattle.writes.specs.declared.cursor.Listing.{Listing}
-pub use Rattle.writes.specs.declared.cursor.Listing.TheVariants.{Open as ListingOpen, Refused as ListingRefused}
-pub use Rattle.writes.specs.declared.next.NextData.{NextData}
-pub use Rattle.writes.specs.declared.next.NextData.TheVariants.{At as DataAt, Nothing as NoData}
+pub use Rattle.writes.specs.declared.cursor.Step.{Step}
+pub use Rattle.writes.specs.declared.next.DataWord.{DataWord}

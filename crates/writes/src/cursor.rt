@@ -7,7 +7,7 @@ ghost use Rattle.writes.specs.Cursor.{cursor_at, remaining_writes, step_numbers,
 use crate::next::{next_of, step_at};
 use crate::reading::{scan, write_at};
 use packets::header::{Effect, effect_of};
-use packets::trace::{Write, WriteAnswer};
+use packets::trace::Write;
 use scanner::scan::Status;
 
 // A place among the writes of a chip or an image: the next word's place, the packet's register and
@@ -20,18 +20,11 @@ pub struct Cursor {
     pub remaining: usize,
 }
 
-// A cursor's next write, with the cursor after it; or that there is none.
-#[derive(Drop)]
-pub enum CursorStep {
-    Wrote { write: Write, cursor: Cursor },
-    Done,
-}
-
-// A cursor before the first write, or a refusal.
-#[derive(Drop)]
-pub enum Listing {
-    Open(Cursor),
-    Refused { number: u32, place: usize },
+// A cursor's next write, with the cursor after it.
+#[derive(Clone, Copy)]
+pub struct Step {
+    pub write: Write,
+    pub cursor: Cursor,
 }
 
 impl Cursor {
@@ -48,7 +41,7 @@ impl Cursor {
 
     // The next write of the bytes that the cursor was opened on. `writes_after_step` says it of all that are to
     // come: this write, and then those of the cursor handed back, are those of this cursor.
-    pub fn step(self, s: &[u8]) -> CursorStep
+    pub fn step(self, s: &[u8]) -> Option<Step>
         ensures gives { Gives step_numbers result (step_of s.now self) }
         ensures lists { writes_after_step s.now result ≡ remaining_writes s.now self }
     {
@@ -76,13 +69,12 @@ pub(crate) fn after_write(write: Write, left: usize, remaining: usize) -> Cursor
 }
 
 // The i-th write, counted from 0, of the packets from `from` on.
-pub fn nth_from(s: &[u8], from: usize, i: usize) -> WriteAnswer
+pub fn nth_from(s: &[u8], from: usize, i: usize) -> Option<Write>
     ensures { result ≡ nth_write (writes_from s.now from) i }
 {
     let w = scan(s, from, i);
-    let status = w.status;
-    let Status::Reached = status else {
-        return WriteAnswer::Nothing;
-    };
-    WriteAnswer::Found(write_at(s, w))
+    if w.status != Status::Reached {
+        return None;
+    }
+    Some(write_at(s, w))
 }

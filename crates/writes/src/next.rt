@@ -8,38 +8,34 @@ ghost use Rattle.writes.specs.Types.{Type1};
 ghost use Rattle.writes.specs.Cursor.{trace_at, first_of};
 ghost use Rattle.writes.specs.Next.{step_at, step_with};
 
-use crate::cursor::{Cursor, CursorStep, after_write};
+use crate::cursor::{Cursor, Step, after_write};
 use crate::reading::scan;
 use framing::words::{word_at, words_from};
 use packets::header::is_type1_write;
 use packets::trace::Write;
 use scanner::scan::Status;
 
-// A data word's place, its packet's register, and how many more data words come after it; or that none comes.
-#[derive(Drop)]
-pub enum NextData {
-    At {
-        at: usize,
-        register: u32,
-        more: usize,
-    },
-    Nothing,
+// A data word's place, its packet's register, and how many more data words come after it.
+#[derive(Clone, Copy)]
+pub struct DataWord {
+    pub at: usize,
+    pub register: u32,
+    pub more: usize,
 }
 
 // The first data word of the packets from `from` on, by a scan for it.
-fn scan_for_data(s: &[u8], from: usize) -> NextData
+fn scan_for_data(s: &[u8], from: usize) -> Option<DataWord>
     ensures { (n : ℕ) → step_at s.now result n ≡ first_of (trace_from s.now from) n }
 {
     let w = scan(s, from, 0);
-    let status = w.status;
-    let Status::Reached = status else {
-        return NextData::Nothing;
-    };
-    NextData::At {
+    if w.status != Status::Reached {
+        return None;
+    }
+    Some(DataWord {
         at: w.at,
         register: w.register,
         more: w.left,
-    }
+    })
 }
 
 // Is this the header of a type 1 write with data words? A yes is sure.
@@ -53,56 +49,54 @@ fn begins_packet(word: u32) -> bool
 }
 
 // The first data word of the packets from `from` on. Most often it comes after one header, and nothing is scanned for.
-fn next_data(s: &[u8], from: usize) -> NextData
+fn next_data(s: &[u8], from: usize) -> Option<DataWord>
     ensures { (n : ℕ) → step_at s.now result n ≡ first_of (trace_from s.now from) n }
 {
     if words_from(s, from) > 0 {
         let word = word_at(s, from);
         if begins_packet(word) {
-            return NextData::At {
+            return Some(DataWord {
                 at: from + 4,
                 register: word / 0x2000 % 32,
                 more: (word % 0x0800) as usize - 1,
-            };
+            });
         }
     }
     scan_for_data(s, from)
 }
 
 // A cursor's next data word: where the cursor is, within a packet, or after headers.
-pub fn next_of(s: &[u8], cursor: Cursor) -> NextData
+pub fn next_of(s: &[u8], cursor: Cursor) -> Option<DataWord>
     ensures { (n : ℕ) → step_at s.now result n ≡ first_of (trace_at s.now cursor) n }
 {
     if cursor.left == 0 {
         return next_data(s, cursor.at);
     }
-    NextData::At {
+    Some(DataWord {
         at: cursor.at,
         register: cursor.register,
         more: cursor.left - 1,
-    }
+    })
 }
 
 // The step to a data word, of a cursor with `remaining` writes to come.
-pub fn step_at(s: &[u8], next: NextData, remaining: usize) -> CursorStep
+pub fn step_at(s: &[u8], next: Option<DataWord>, remaining: usize) -> Option<Step>
     ensures { result ≡ step_with s.now next remaining }
 {
-    let NextData::At { at, register, more } = next else {
-        return CursorStep::Done;
-    };
+    let DataWord { at, register, more } = next?;
     if remaining == 0 {
-        return CursorStep::Done;
+        return None;
     }
     if words_from(s, at) == 0 {
-        return CursorStep::Done;
+        return None;
     }
     let write = Write {
         register,
         word: word_at(s, at),
         place: at,
     };
-    CursorStep::Wrote {
+    Some(Step {
         write,
         cursor: after_write(write, more, remaining - 1),
-    }
+    })
 }

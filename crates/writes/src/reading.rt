@@ -18,18 +18,14 @@ pub fn scan(s: &[u8], from: usize, skip: usize) -> Scanner
     ensures comes { scan_of s.now result ≡ scan_of s.now (scanner_from from skip) }
 {
     let mut w = from_sync(from, skip);
-    loop {
-        let status = w.status;
-        let Status::Going = status else {
-            return w;
-        };
-        let left = w.left;
-        w = if left == 0 {
+    while w.status == Status::Going {
+        w = if w.left == 0 {
             header_step(s, skip_packets(s, w))
         } else {
             data_step(s, w)
         };
     }
+    w
 }
 
 // The write at a scanner's place.
@@ -49,18 +45,16 @@ fn finish_of(w: Scanner) -> Finish
     requires { (w.status ≡ Going → ⊥) × (w.status ≡ AtWrite → ⊥) }
     ensures { (s : List ℕ) → scan_of s w ≡ ScanFinished result }
 {
-    let at = w.at;
-    let status = w.status;
-    match status {
+    match w.status {
         Status::Ended => Finish::Ended {
-            end: at,
+            end: w.at,
             writes: w.writes,
         },
         Status::Iprog => Finish::Iprog {
-            place: at,
+            place: w.at,
             target: w.wbstar % 0x2000_0000,
         },
-        Status::Fault => Finish::Fault { place: at },
+        Status::Fault => Finish::Fault { place: w.at },
         Status::Short => Finish::Short,
         // both ruled out by the `requires`
         Status::Going => Finish::Short,
