@@ -1,6 +1,5 @@
 -- Bytes, then FF, and bytes compared with them. Document 01, question 9.
-use Rattle.std.specs.Prelude.{ℕ, ◌+◌, ◌-◌, true, false, List, [], ◌∷◌, ◌++◌, eqb, length}
-use Rattle.std.proofs.Math.Option.{Option, some, none}
+use Rattle.std.specs.Prelude.{ℕ, ◌+◌, ◌-◌, true, false, List, [], ◌∷◌, ◌++◌, Option, Some, None, eqb, length}
 use Rattle.flash.specs.Flash.{erased}
 
 -- bytes, then FF up to `count`
@@ -9,6 +8,6 @@ padded count bytes = bytes ++ erased (count - length bytes)
 
 -- The first address, from a place on, at which bytes are not those expected there.
 unfoldable pub differs : ℕ → List ℕ → List ℕ → Option ℕ
-differs place [] expected = none
-differs place (byte ∷ bytes) [] = none
-differs place (byte ∷ bytes) (m ∷ expected) = elim (eqb byte m) [ true ↦ differs (place + 1) bytes expected | false ↦ some place ]
+differs place [] expected = None
+differs place (byte ∷ bytes) [] = None
+differs place (byte ∷ bytes) (m ∷ expected) = elim (eqb byte m) [ true ↦ differs (place + 1) bytes expected | false ↦ Some place ]

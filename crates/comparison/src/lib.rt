@@ -6,14 +6,8 @@ ghost use Rattle.std.specs.Prelude.{◌≤◌, ◌≡◌, true, length};
 ghost use Rattle.kind.specs.Layout.{page, longest_chip};
 ghost use Rattle.flash.specs.Flash.{erased};
 ghost use Rattle.comparison.specs.Comparison.{padded, differs};
-ghost use Rattle.comparison.specs.Internal.{comparison};
 
-// What comparing came to: all bytes agree, or the first address at which they do not.
-#[derive(Drop)]
-pub enum Comparison {
-    Same,
-    Differs { address: usize },
-}
+use base::copy;
 
 // Bytes, then FF to the end of a page.
 pub fn padded_page(bytes: &[u8]) -> [u8; 256]
@@ -21,11 +15,7 @@ pub fn padded_page(bytes: &[u8]) -> [u8; 256]
     ensures { result ≡ padded page bytes.now }
 {
     let mut filling = [0xFF; 256];
-    let mut i = 0;
-    while i < bytes.len() {
-        filling[i] = bytes[i];
-        i += 1;
-    }
+    copy(bytes, &mut filling);
     filling
 }
 
@@ -36,12 +26,10 @@ fn same(bytes: &[u8], others: &[u8]) -> bool
     ensures { result ≡ true → bytes.now ≡ others.now }
 {
     let mut all = true;
-    let mut i = 0;
-    while i < bytes.len() {
-        if bytes[i] != others[i] {
+    for (byte, other) in bytes.iter().zip(others) {
+        if byte != other {
             all = false;
         }
-        i += 1;
     }
     all
 }
@@ -51,12 +39,10 @@ fn all_erased(bytes: &[u8]) -> bool
     ensures { result ≡ true → bytes.now ≡ erased (length bytes.now) }
 {
     let mut all = true;
-    let mut i = 0;
-    while i < bytes.len() {
-        if bytes[i] != 0xFF {
+    for byte in bytes {
+        if *byte != 0xFF {
             all = false;
         }
-        i += 1;
     }
     all
 }
@@ -67,39 +53,31 @@ fn agree(bytes: &[u8], expected: &[u8]) -> bool
     ensures { result ≡ true → bytes.now ≡ padded (length bytes.now) expected.now }
 {
     let count = expected.len();
-    if !same(&bytes[0..count], expected) {
-        return false;
-    }
-    all_erased(&bytes[count..])
+    same(&bytes[0..count], expected) && all_erased(&bytes[count..])
 }
 
 // The first address, from a place on, at which bytes are not those expected there.
-fn first_difference(place: usize, bytes: &[u8], expected: &[u8]) -> Comparison
+fn first_difference(place: usize, bytes: &[u8], expected: &[u8]) -> Option<usize>
     requires { (place ≤ longest_chip) × (length expected.now ≤ length bytes.now) × (length bytes.now ≤ page) }
-    ensures { result ≡ comparison (differs place bytes.now (padded (length bytes.now) expected.now)) }
+    ensures { result ≡ differs place bytes.now (padded (length bytes.now) expected.now) }
 {
-    let mut i = 0;
-    while i < bytes.len() {
-        let mut expected_byte = 0xFF;
-        if i < expected.len() {
-            expected_byte = expected[i];
+    for (i, byte) in bytes.iter().enumerate() {
+        let expected_byte = if i < expected.len() { expected[i] } else { 0xFF };
+        if *byte != expected_byte {
+            return Some(place + i);
         }
-        if bytes[i] != expected_byte {
-            return Comparison::Differs { address: place + i };
-        }
-        i += 1;
     }
-    Comparison::Same
+    None
 }
 
-// Compares bytes from a place on with those expected there: `expected`, then FF. Nearly every look
-// agrees, so the slower search for an address waits until one does not.
-pub fn compare(place: usize, bytes: &[u8], expected: &[u8]) -> Comparison
+// Compares bytes from a place on with those expected there: `expected`, then FF. The first address at which they
+// differ, or none. Nearly every look agrees, so the slower search for an address waits until one does not.
+pub fn compare(place: usize, bytes: &[u8], expected: &[u8]) -> Option<usize>
     requires { (place ≤ longest_chip) × (length expected.now ≤ length bytes.now) × (length bytes.now ≤ page) }
-    ensures { result ≡ comparison (differs place bytes.now (padded (length bytes.now) expected.now)) }
+    ensures { result ≡ differs place bytes.now (padded (length bytes.now) expected.now) }
 {
     if agree(bytes, expected) {
-        return Comparison::Same;
+        return None;
     }
     first_difference(place, bytes, expected)
 }

@@ -1,7 +1,5 @@
 -- The types of the code that this crate's definitions and proofs name, with their cases; each has one name in the whole tree.
 pub use Rattle.kind.specs.declared.layout.Layout.{Layout}
-pub use Rattle.comparison.specs.declared.Comparison.{Comparison}
-pub use Rattle.comparison.specs.declared.Comparison.TheVariants.{Same, Differs}
 pub use Rattle.orders.specs.declared.Operation.{Operation}
 pub use Rattle.orders.specs.declared.Operation.TheVariants.{Erase, Program, Look}
 pub use Rattle.orders.specs.declared.judging.Judgement.{Judgement}

@@ -3,7 +3,6 @@ ghost use Rattle.std.specs.Prelude.{◌+◌, ◌*◌, ◌<◌, ◌≤◌, ◌≡
 ghost use Rattle.kind.specs.Layout.{page, longest_chip};
 ghost use Rattle.kind.specs.Spi.{spi};
 ghost use Rattle.comparison.specs.Comparison.{padded, differs};
-ghost use Rattle.comparison.specs.Internal.{comparison};
 ghost use Rattle.orders.specs.Table.{count};
 ghost use Rattle.orders.specs.Orders.{order_of};
 ghost use Rattle.orders.specs.Carried.{carried};
@@ -11,11 +10,12 @@ ghost use Rattle.orders.specs.Replies.{asks_for};
 ghost use Rattle.orders.specs.Judging.{judged_done, judged_look, judged};
 
 use crate::{Operation, carried_bytes, operation_at};
-use comparison::{Comparison, compare};
+use comparison::compare;
 use kind::layout::Layout;
 use kind::spi::Spi;
 
 // What a reply says: an erase or program is done, or the bytes that a look read.
+// Stays: State::reply (updater, reply_answer) holds it: it answers refusal 9 for every other number.
 pub const DONE: u32 = 0;
 
 pub const READ: u32 = 1;
@@ -33,10 +33,7 @@ pub enum Judgement {
 fn is_as_asked(what: u32, count: usize, reply_kind: u32, lent: usize) -> bool
     ensures { result ≡ asks_for what count reply_kind lent }
 {
-    if reply_kind != what {
-        return false;
-    }
-    lent == count
+    reply_kind == what && lent == count
 }
 
 // Question 8, for the reply to an erase or program.
@@ -49,20 +46,20 @@ fn judge_done(reply_kind: u32, lent: usize) -> Judgement
     Judgement::NotAsked
 }
 
-// Question 9, for what comparing a look came to.
-fn judge_look(comparison: Comparison) -> Judgement
-    ensures { result ≡ judged_look comparison }
+// Question 9, for the first address at which a look read another byte than expected, if any.
+fn judge_look(difference: Option<usize>) -> Judgement
+    ensures { result ≡ judged_look difference }
 {
-    match comparison {
-        Comparison::Same => Judgement::Agrees,
-        Comparison::Differs { address } => Judgement::Differs { address },
+    match difference {
+        None => Judgement::Agrees,
+        Some(address) => Judgement::Differs { address },
     }
 }
 
 // Compares what a look at a place read with what is expected there.
-fn compare_look(image: &[u8], phase: u32, index: usize, place: usize, bytes: &[u8]) -> Comparison
+fn compare_look(image: &[u8], phase: u32, index: usize, place: usize, bytes: &[u8]) -> Option<usize>
     requires { (page * index < longest_chip) × (place ≤ longest_chip) × (length (carried spi image.now phase index) ≤ length bytes.now) × (length bytes.now ≤ page) }
-    ensures { result ≡ comparison (differs place bytes.now (padded (length bytes.now) (carried spi image.now phase index))) }
+    ensures { result ≡ differs place bytes.now (padded (length bytes.now) (carried spi image.now phase index)) }
 {
     let on = Spi::ON;
     compare(place, bytes, carried_bytes(image, phase, index, &on))
@@ -80,16 +77,8 @@ pub fn judge(
     requires { (index < count layout (length image.now) phase) × (layout.update_place + page * index < longest_chip) }
     ensures { result ≡ judged (order_of spi layout image.now phase index) reply_kind bytes.now }
 {
-    let operation = operation_at(layout, image.len(), phase, index);
-    match operation {
-        Operation::Erase {
-            place: _,
-            length: _,
-        } => judge_done(reply_kind, bytes.len()),
-        Operation::Program {
-            place: _,
-            length: _,
-        } => judge_done(reply_kind, bytes.len()),
+    match operation_at(layout, image.len(), phase, index) {
+        Operation::Erase { .. } | Operation::Program { .. } => judge_done(reply_kind, bytes.len()),
         Operation::Look { place, length } => {
             if !is_as_asked(READ, length, reply_kind, bytes.len()) {
                 return Judgement::NotAsked;

@@ -28,6 +28,8 @@ pub enum Operation {
 }
 
 // How many orders a phase has.
+// Stays: State (updater; its calls answer refusal 7 for every phase, and hand every state back) holds it that a phase is a
+// number here and in the functions below.
 pub fn orders_in(layout: Layout, image_length: usize, phase: u32) -> usize
     ensures { result ≡ count layout image_length phase }
 {
@@ -49,10 +51,8 @@ pub fn orders_before(layout: Layout, image_length: usize, phase: u32) -> usize
     ensures { result ≡ count_before layout image_length phase }
 {
     let mut orders = 0;
-    let mut i = 0;
-    while i < phase {
+    for i in 0..phase {
         orders += orders_in(layout, image_length, i);
-        i += 1;
     }
     orders
 }
