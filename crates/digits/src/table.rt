@@ -33,6 +33,7 @@ impl Digits {
     }
 
     // The value of a character as a digit, 16 where it is none.
+    #[tactic(auto, using(crate::proofs::DigitLaws::digit_most))]
     pub(crate) fn digit(&self, c: u8) -> u32
         ensures value { result ≡ digit_of c }
         ensures range { result ≤ 16 }
