@@ -1,13 +1,13 @@
 -- What is proved of files with an image: that the image told of lies within the file, that a BIT file gives its image, and that no text has a sync word.
-use Rattle.std.specs.Prelude.{ℕ, ◌+◌, ◌/◌, ◌%◌, ◌^◌, ◌<◌, ◌≤◌, ◌≡◌, List, ◌∷◌, ◌++◌, length, take, drop}
+use Rattle.std.specs.Prelude.{ℕ, ◌+◌, ◌/◌, ◌%◌, ◌^◌, ◌<◌, ◌≤◌, ◌≡◌, List, ◌∷◌, ◌++◌, length, take, drop, None, Ok}
 use Rattle.framing.specs.Search.{find}
 use Rattle.framing.specs.Words.{bytes_of}
 use Rattle.imagefile.specs.Imagefile.{bit_start, image_letter, form_answer}
-use Rattle.imagefile.specs.Types.{FormText, FormBit, NoSync}
+use Rattle.imagefile.specs.Types.{FormText, FormBit}
 
 -- The image of a BIT file lies within the file, after its first 13 bytes and the heads of five fields.
 abbrev pub BitInside : Type 0
-BitInside = (file : List ℕ) (first count : ℕ) → form_answer file ≡ FormBit first count → (30 ≤ first) × (first + count ≤ length file)
+BitInside = (file : List ℕ) (first count : ℕ) → form_answer file ≡ Ok (FormBit first count) → (30 ≤ first) × (first + count ≤ length file)
 
 -- A field as it is written, and the image's.
 abbrev pub field_of : ℕ → List ℕ → List ℕ
@@ -23,7 +23,7 @@ bit_file a b c d image rest = bit_start ++ (field_of 0x61 a ++ (field_of 0x62 b 
 -- A file that gives an image: it is told as a BIT file, and the image is what is at the place told, as long as told.
 pub record GivesImage (file image : List ℕ) : Type 0 where
   pub first : ℕ
-  pub told : form_answer file ≡ FormBit first (length image)
+  pub told : form_answer file ≡ Ok (FormBit first (length image))
   pub same : take (length image) (drop first file) ≡ image
 
 -- Every BIT file gives its image, whatever its fields contain and whatever comes after it.
@@ -34,4 +34,4 @@ BitFile =
 
 -- What is told as text has no sync word: so no image that loads anything is taken for text.
 abbrev pub TextHasNoSync : Type 0
-TextHasNoSync = (file : List ℕ) → form_answer file ≡ FormText → find file 0 ≡ NoSync
+TextHasNoSync = (file : List ℕ) → form_answer file ≡ Ok FormText → find file 0 ≡ None

@@ -1,12 +1,12 @@
 // What a file with an image is, told by its bytes, never by its name.
 #![tactic(auto)]
 
-ghost use Rattle.std.specs.Prelude.{◌≡◌, ◌+◌, ◌<◌, ◌≤◌, length, drop};
+ghost use Rattle.std.specs.Prelude.{◌≡◌, ◌+◌, ◌^◌, ◌<◌, ◌≤◌, length, drop};
 ghost use Rattle.base.specs.Answer.{Gives};
 ghost use Rattle.framing.specs.Search.{begins_with};
 ghost use Rattle.imagefile.specs.Imagefile.{bit_start, content_length, has_field, image_field, letters, fields, is_text, form_numbers, form_answer};
 
-use base::refusal;
+use base::refusal::{Reason, Refusal};
 use framing::words::word_at;
 
 // The bytes that a BIT file begins with.
@@ -17,107 +17,84 @@ const BIT_START: [u8; 13] = [
 // The letters of the fields before the image's, in order.
 const LETTERS: [u8; 4] = [b'a', b'b', b'c', b'd'];
 
-// MCS text; a BIT file, with the place and length of the image inside it; the image itself, as plain bytes; or a
-// refusal.
-#[derive(Drop)]
-pub enum FormAnswer {
+// MCS text; a BIT file, with the place and length of the image inside it; or the image itself, as plain bytes.
+#[derive(Clone, Copy)]
+pub enum Form {
     Text,
     Bit { first: usize, length: usize },
     Binary,
-    Refused { number: u32, place: usize },
 }
 
 // Does a file begin as a BIT file does?
 fn begins_as_bit(file: &[u8]) -> bool
     ensures { result ≡ begins_with bit_start file.now }
 {
-    if file.len() < BIT_START.len() {
-        return false;
-    }
-    let mut i = 0;
-    while i < BIT_START.len() {
-        if file[i] != BIT_START[i] {
-            return false;
-        }
-        i += 1;
-    }
-    true
-}
-
-// A byte as a part of a length.
-fn wide(byte: u8) -> usize
-    ensures { (result ≡ byte) × (result < 256) }
-{
-    byte as usize
+    file.starts_with(&BIT_START)
 }
 
 // The length that a field says of its content.
-fn content_length(file: &[u8], at: usize) -> usize
-    requires { at + 3 ≤ length file.now }
-    ensures { result ≡ content_length (drop at file.now) }
+fn content_length(field: &[u8]) -> usize
+    requires { 3 ≤ length field.now }
+    ensures { result ≡ content_length field.now }
 {
-    wide(file[at + 1]) * 256 + wide(file[at + 2])
+    usize::from(u16::from_be_bytes([field[1], field[2]]))
 }
 
-// Is a field with this letter at `at`, whole? Asked of what is left of the file, so that no sum can wrap.
-fn has_field(file: &[u8], at: usize, letter: u8) -> bool
-    requires { at ≤ length file.now }
-    ensures { result ≡ has_field letter (drop at file.now) }
+// Is a field with this letter at the front, whole? Asked of what is left of the file, so that no sum can wrap.
+fn has_field(bytes: &[u8], letter: u8) -> bool
+    ensures { result ≡ has_field letter bytes.now }
 {
-    let left = file.len() - at;
-    if left < 3 {
+    if bytes.len() < 3 {
         return false;
     }
-    if file[at] != letter {
+    if bytes[0] != letter {
         return false;
     }
-    content_length(file, at) <= left - 3
+    content_length(bytes) <= bytes.len() - 3
 }
 
-// The image's own field, or the refusal of what is there instead.
-fn image_field(file: &[u8], at: usize) -> FormAnswer
-    requires { at ≤ length file.now }
-    ensures { result ≡ image_field (drop at file.now) at }
+// The image's own field, or the refusal of what is there instead. The bytes are those from its place on.
+fn image_field(bytes: &[u8], place: usize) -> Result<Form, Refusal>
+    requires { place + length bytes.now < 2 ^ 64 }
+    ensures { result ≡ image_field bytes.now place }
 {
-    let refused = FormAnswer::Refused {
-        number: refusal::IMAGE_FAULT,
-        place: at,
-    };
-    let left = file.len() - at;
-    if left < 5 {
+    let refused = Err(Refusal {
+        reason: Reason::ImageFault,
+        place,
+    });
+    if bytes.len() < 5 {
         return refused;
     }
-    if file[at] != b'e' {
+    if bytes[0] != b'e' {
         return refused;
     }
-    let length = word_at(file, at + 1) as usize;
-    if left - 5 < length {
+    let length = word_at(bytes, 1) as usize;
+    if bytes.len() - 5 < length {
         return refused;
     }
-    FormAnswer::Bit {
-        first: at + 5,
+    Ok(Form::Bit {
+        first: place + 5,
         length,
-    }
+    })
 }
 
 // The fields of a BIT file, from after its first 13 bytes.
-fn read_fields(file: &[u8]) -> FormAnswer
+fn read_fields(file: &[u8]) -> Result<Form, Refusal>
     requires { 13 ≤ length file.now }
     ensures { result ≡ fields letters (drop 13 file.now) 13 }
 {
     let mut at = BIT_START.len();
-    let mut i = 0;
-    while i < LETTERS.len() {
-        if !has_field(file, at, LETTERS[i]) {
-            return FormAnswer::Refused {
-                number: refusal::IMAGE_FAULT,
+    for letter in LETTERS {
+        let bytes = &file[at..];
+        if !has_field(bytes, letter) {
+            return Err(Refusal {
+                reason: Reason::ImageFault,
                 place: at,
-            };
+            });
         }
-        at += 3 + content_length(file, at);
-        i += 1;
+        at += 3 + content_length(bytes);
     }
-    image_field(file, at)
+    image_field(&file[at..], at)
 }
 
 // How many bytes are asked at once whether they are text.
@@ -128,12 +105,10 @@ fn block_is_text(block: &[u8]) -> bool
     ensures { result ≡ is_text block.now }
 {
     let mut text = true;
-    let mut i = 0;
-    while i < block.len() {
-        if block[i] > 0x7F {
+    for byte in block {
+        if *byte > 0x7F {
             text = false;
         }
-        i += 1;
     }
     text
 }
@@ -142,26 +117,24 @@ fn block_is_text(block: &[u8]) -> bool
 fn is_text(file: &[u8]) -> bool
     ensures { result ≡ is_text file.now }
 {
-    let mut at = 0;
-    while BLOCK < file.len() - at {
-        if !block_is_text(&file[at..at + BLOCK]) {
+    for block in file.chunks(BLOCK) {
+        if !block_is_text(block) {
             return false;
         }
-        at += BLOCK;
     }
-    block_is_text(&file[at..])
+    true
 }
 
 // What a file is: a BIT file by its first 13 bytes, text where no byte is above 7F, else plain binary; or refusal 5, at
 // the first field of a BIT file that is not the one to come there, whole.
-pub fn form(file: &[u8]) -> FormAnswer
+pub fn form(file: &[u8]) -> Result<Form, Refusal>
     ensures { Gives form_numbers result (form_answer file.now) }
 {
     if begins_as_bit(file) {
         return read_fields(file);
     }
     if is_text(file) {
-        return FormAnswer::Text;
+        return Ok(Form::Text);
     }
-    FormAnswer::Binary
+    Ok(Form::Binary)
 }
