@@ -5,7 +5,7 @@ use Rattle.base.specs.Refusal.{refused}
 use Rattle.base.specs.Answer.{Numbered, in_numbers}
 use Rattle.framing.specs.Search.{begins_with}
 use Rattle.framing.specs.Words.{word_at}
-use Rattle.imagefile.specs.Types.{ImageFault, Refusal, Form, FormText, FormBit, FormBinary}
+use Rattle.imagefile.specs.Types.{ImageFault, Refusal, FileForm, FormText, FormBit, FormBinary}
 
 -- A BIT file begins with these 13 bytes.
 abbrev pub bit_start : List ℕ
@@ -33,11 +33,11 @@ has_field letter bytes = whole_field letter 3 (content_length bytes) bytes
 unfoldable pub has_image : List ℕ → Bool
 has_image bytes = whole_field image_letter 5 (word_at bytes 1) bytes
 
-unfoldable pub image_field : List ℕ → ℕ → Result Form Refusal
+unfoldable pub image_field : List ℕ → ℕ → Result FileForm Refusal
 image_field bytes place = ask (has_image bytes) (refused ImageFault place) (Ok (FormBit (place + 5) (word_at bytes 1)))
 
 -- The fields one after another. A field with another letter, or one that does not end within the file, is refused at its place. The bytes are those from the place on.
-unfoldable pub fields : List ℕ → List ℕ → ℕ → Result Form Refusal
+unfoldable pub fields : List ℕ → List ℕ → ℕ → Result FileForm Refusal
 fields [] bytes place = image_field bytes place
 fields (letter ∷ more) bytes place = ask (has_field letter bytes) (refused ImageFault place) (fields more (drop (3 + content_length bytes) bytes) (place + (3 + content_length bytes)))
 
@@ -47,13 +47,13 @@ is_text [] = true
 is_text (byte ∷ bytes) = leb byte 0x7F && is_text bytes
 
 -- in numbers: 1 for text, 2 for a BIT file with the place and length of its image, 3 for plain binary
-abbrev pub form_numbers : Result Form Refusal → Numbered
-form_numbers = in_numbers (λ (form : Form). elim form [ FormText ↦ 1 ∷ 0 ∷ 0 ∷ [] | FormBit first length ↦ 2 ∷ first ∷ length ∷ [] | FormBinary ↦ 3 ∷ 0 ∷ 0 ∷ [] ])
+abbrev pub form_numbers : Result FileForm Refusal → Numbered
+form_numbers = in_numbers (λ (form : FileForm). elim form [ FormText ↦ 1 ∷ 0 ∷ 0 ∷ [] | FormBit first length ↦ 2 ∷ first ∷ length ∷ [] | FormBinary ↦ 3 ∷ 0 ∷ 0 ∷ [] ])
 
 -- `form`: a BIT file by its first bytes; any other is text or plain binary
-unfoldable pub plain_form : Bool → Form
+unfoldable pub plain_form : Bool → FileForm
 plain_form true = FormText
 plain_form false = FormBinary
 
-unfoldable pub form_answer : List ℕ → Result Form Refusal
+unfoldable pub form_answer : List ℕ → Result FileForm Refusal
 form_answer file = ask (begins_with bit_start file) (Ok (plain_form (is_text file))) (fields letters (drop 13 file) 13)

@@ -1,4 +1,4 @@
 -- The types of the code that this crate's definitions and proofs name, with their cases; each has one name in the whole tree.
 pub use Rattle.base.specs.Types.{ImageFault, Refusal}
-pub use Rattle.imagefile.specs.declared.Form.{Form}
-pub use Rattle.imagefile.specs.declared.Form.TheVariants.{Text as FormText, Bit as FormBit, Binary as FormBinary}
+pub use Rattle.imagefile.specs.declared.FileForm.{FileForm}
+pub use Rattle.imagefile.specs.declared.FileForm.TheVariants.{Text as FormText, Bit as FormBit, Binary as FormBinary}

@@ -19,7 +19,7 @@ const LETTERS: [u8; 4] = [b'a', b'b', b'c', b'd'];
 
 // MCS text; a BIT file, with the place and length of the image inside it; or the image itself, as plain bytes.
 #[derive(Clone, Copy)]
-pub enum Form {
+pub enum FileForm {
     Text,
     Bit { first: usize, length: usize },
     Binary,
@@ -54,7 +54,7 @@ fn has_field(bytes: &[u8], letter: u8) -> bool
 }
 
 // The image's own field, or the refusal of what is there instead. The bytes are those from its place on.
-fn image_field(bytes: &[u8], place: usize) -> Result<Form, Refusal>
+fn image_field(bytes: &[u8], place: usize) -> Result<FileForm, Refusal>
     requires { place + length bytes.now < 2 ^ 64 }
     ensures { result ≡ image_field bytes.now place }
 {
@@ -72,14 +72,14 @@ fn image_field(bytes: &[u8], place: usize) -> Result<Form, Refusal>
     if bytes.len() - 5 < length {
         return refused;
     }
-    Ok(Form::Bit {
+    Ok(FileForm::Bit {
         first: place + 5,
         length,
     })
 }
 
 // The fields of a BIT file, from after its first 13 bytes.
-fn read_fields(file: &[u8]) -> Result<Form, Refusal>
+fn read_fields(file: &[u8]) -> Result<FileForm, Refusal>
     requires { 13 ≤ length file.now }
     ensures { result ≡ fields letters (drop 13 file.now) 13 }
 {
@@ -127,14 +127,14 @@ fn is_text(file: &[u8]) -> bool
 
 // What a file is: a BIT file by its first 13 bytes, text where no byte is above 7F, else plain binary; or refusal 5, at
 // the first field of a BIT file that is not the one to come there, whole.
-pub fn form(file: &[u8]) -> Result<Form, Refusal>
+pub fn form(file: &[u8]) -> Result<FileForm, Refusal>
     ensures { Gives form_numbers result (form_answer file.now) }
 {
     if begins_as_bit(file) {
         return read_fields(file);
     }
     if is_text(file) {
-        return Ok(Form::Text);
+        return Ok(FileForm::Text);
     }
-    Ok(Form::Binary)
+    Ok(FileForm::Binary)
 }
