@@ -4,15 +4,19 @@ use mathlib.Core.Path.{◌≡◌, refl, sym, ap, ◌∙◌}
 use mathlib.Core.List.{List, [], ◌∷◌, ◌++◌, append_assoc, append-nil}
 use native.Mathlib.Nat.{zero-add}
 use native.Mathlib.Omega.{arith}
-use borrow.Author.Tests.{le-leb}
+use mathlib.Core.Bool.{Bool, true, false}
+use borrow.Author.Tests.{le-leb, leb-true}
+use lib.Dec.{leb}
 use lib.Bits.{bit_and}
 use lib.ListN.{length, get_or, take, drop, length-append, length-replicate, get_or-replicate, length-drop, drop_of_length-le, get_or-append}
 use lib.Seq.{paste, take_all, take-length, drop-drop, length-take-le, get_or-take, get_or-drop, get_or-append-add, take-append-le, drop-append-le, drop-append-add, take_at}
+use Rattle.std.specs.Prelude.{Result, Ok, Err}
 use Rattle.base.specs.Question.{ask}
+use Rattle.base.specs.Refusal.{refused}
 use Rattle.base.specs.Output.{front_filled}
 use Rattle.base.proofs.Laws.{front_fits}
 use Rattle.flash.specs.Flash.{erased, span, overwrite, overwrite_in_range, flash_answer, cleared}
-use Rattle.flash.specs.Types.{FlashDone}
+use Rattle.flash.specs.Types.{NoRoom, Refusal}
 
 pub span_at : (chip : List ℕ) (place count i : ℕ) → i < count → get_or (span chip place count) i 0 ≡ get_or chip (place + i) 0
 span_at chip place count i h = get_or-take count (drop place chip) i 0 h ∙ get_or-drop place chip i 0
@@ -142,7 +146,22 @@ cleared_at (o ∷ old) (b ∷ bytes) (suc i) e h = cleared_at old bytes i (omega
 pub erased_at : (count i : ℕ) → i < count → get_or (erased count) i 0 ≡ 0xFF
 erased_at count i h = get_or-replicate count i 0xFF 0 h
 
--- A span that lies within the chip is not refused.
-pub in_range_done : (chip_length place count : ℕ) → place + count ≤ chip_length → FlashDone ≡ flash_answer chip_length place count
+-- A span that is not refused lies within the chip,
+pub room : (chip_length place count : ℕ) → flash_answer chip_length place count ≡ Ok tt → place + count ≤ chip_length
 unfolding flash_answer ask
-in_range_done chip_length place count fits = rw (le-leb (place + count) chip_length fits) refl
+room chip_length place count e = go (leb (place + count) chip_length) refl e
+  where
+    go : (b : Bool) → leb (place + count) chip_length ≡ b → ask b (refused NoRoom 0) (Ok tt) ≡ Ok tt → place + count ≤ chip_length
+    unfolding ask
+    go true p q = leb-true (place + count) chip_length p
+    go false p q = let z : ◌≡◌ {A = ℕ} 0 1 = cc in absurd (omega arith)
+
+-- and where one is refused the chip stays.
+pub stays : (chip : List ℕ) (place count : ℕ) (bytes : List ℕ) (r : Refusal) → flash_answer (length chip) place count ≡ Err r → chip ≡ overwrite_in_range chip place count bytes
+unfolding flash_answer overwrite_in_range ask
+stays chip place count bytes r e = go (leb (place + count) (length chip)) e
+  where
+    go : (b : Bool) → ask b (refused NoRoom 0) (Ok tt) ≡ Err r → chip ≡ ask b chip (overwrite chip place bytes)
+    unfolding ask
+    go true q = let z : ◌≡◌ {A = ℕ} 0 1 = cc in absurd (omega arith)
+    go false q = refl

@@ -1,10 +1,10 @@
 -- What an erase and a program do to a chip's bytes. Document 01, "The chip" and "A chip's life".
-use Rattle.std.specs.Prelude.{ℕ, ◌+◌, ◌/◌, ◌%◌, ◌^◌, ◌<◌, ◌≡◌, ◌⊎◌, List, [], ◌∷◌, ◌++◌, leb, length, get_or, take, drop, replicate}
+use Rattle.std.specs.Prelude.{ℕ, ◌+◌, ◌/◌, ◌%◌, ◌^◌, ◌<◌, ◌≡◌, ◌⊎◌, List, [], ◌∷◌, ◌++◌, Result, Ok, leb, length, get_or, take, drop, replicate}
 use Rattle.std.specs.Int.Bits.{bit_and}
-use Rattle.base.specs.Answer.{Numbered, result, refusal}
+use Rattle.base.specs.Answer.{Numbered, in_numbers}
 use Rattle.base.specs.Question.{ask}
-use Rattle.base.specs.Refusal.{no_room}
-use Rattle.flash.specs.Types.{FlashAnswer, FlashDone, FlashRefused}
+use Rattle.base.specs.Refusal.{refused}
+use Rattle.flash.specs.Types.{NoRoom, Refusal}
 
 -- `count` bytes FF: an erase sets its span to them
 abbrev pub erased : ℕ → List ℕ
@@ -23,13 +23,12 @@ unfoldable pub overwrite_in_range : List ℕ → ℕ → ℕ → List ℕ → Li
 overwrite_in_range chip place count bytes = ask (leb (place + count) (length chip)) chip (overwrite chip place bytes)
 
 -- in numbers: what is done has no values
-unfoldable pub flash_numbers : FlashAnswer → Numbered
-flash_numbers FlashDone = result []
-flash_numbers (FlashRefused number place) = refusal number place
+abbrev pub flash_numbers : Result (Unit {0}) Refusal → Numbered
+flash_numbers = in_numbers (λ done. [])
 
 -- What `fill`, `erase`, `program` and `overwrite` answer, by the chip's length, the place and how many bytes: a span that does not lie within the chip is refused with 19 at 0 (question 13).
-unfoldable pub flash_answer : ℕ → ℕ → ℕ → FlashAnswer
-flash_answer chip_length place count = ask (leb (place + count) chip_length) (FlashRefused no_room 0) FlashDone
+unfoldable pub flash_answer : ℕ → ℕ → ℕ → Result (Unit {0}) Refusal
+flash_answer chip_length place count = ask (leb (place + count) chip_length) (refused NoRoom 0) (Ok tt)
 
 -- A program can only clear bits: an obeying chip clears exactly those that are 0 in its bytes.
 unfoldable pub cleared : List ℕ → List ℕ → List ℕ

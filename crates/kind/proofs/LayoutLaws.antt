@@ -5,9 +5,11 @@ use mathlib.Core.Bool.{Bool, true, false}
 use native.Mathlib.Omega.{arith}
 use borrow.Author.Tests.{eqb-true, leb-true, ltb-true}
 use Rattle.base.proofs.Laws.{asked, false_true}
+use Rattle.std.specs.Prelude.{Result, Ok, Err}
 use Rattle.base.specs.Question.{ask}
+use Rattle.base.specs.Refusal.{refused}
 use Rattle.kind.specs.Layout.{chip_length_allowed, update_place_allowed, update_length_allowed, image_length_allowed, ask_layout, ask_numbers, layout_answer, numbers_answer}
-use Rattle.kind.specs.Types.{Layout, LayoutAnswer, LayoutAllowed, LayoutRefused}
+use Rattle.kind.specs.Types.{Reason, BadChipLength, BadUpdatePlace, BadUpdateLength, BadImageLength, Refusal, Layout}
 
 -- what question 1 says of a length, and question 4 of an image's
 pub chip_length_range : (n : ℕ) → chip_length_allowed n ≡ true → (16384 ≤ n) × (n ≤ 16777216) × (n % 4096 ≡ 0)
@@ -36,59 +38,65 @@ update_length_range length update_place update_length e =
     (eqb-true _ _ a.0, leb-true _ _ b.0, leb-true _ _ b.1)
 
 -- what a layout's answer comes to for one who asks more
-unfoldable pub on_layout {ℓ} : {A : Type ℓ} → (ℕ → ℕ → A) → A → LayoutAnswer → A
-on_layout refused rest LayoutAllowed = rest
-on_layout refused rest (LayoutRefused number place) = refused number place
+unfoldable pub on_layout {ℓ} : {A : Type ℓ} → (Reason → ℕ → A) → A → Result (Unit {0}) Refusal → A
+on_layout refused rest (Ok allowed) = rest
+on_layout refused rest (Err r) = refused r.reason r.place
 
 -- Whatever is asked of a layout goes by its answer.
-pub by_layout {ℓ} : {A : Type ℓ} (refused : ℕ → ℕ → A) (rest : A) (layout : Layout) → on_layout refused rest (layout_answer layout) ≡ ask_layout refused layout rest
+pub by_layout {ℓ} : {A : Type ℓ} (refused : Reason → ℕ → A) (rest : A) (layout : Layout) → on_layout refused rest (layout_answer layout) ≡ ask_layout refused layout rest
 unfolding layout_answer ask_layout on_layout ask
 by_layout refused rest layout = go (chip_length_allowed layout.chip_length) (update_place_allowed layout.chip_length layout.update_place) (update_length_allowed layout.chip_length layout.update_place layout.update_length)
   where
-    go : (a b c : Bool) → on_layout refused rest (ask a (LayoutRefused 1 0) (ask b (LayoutRefused 2 0) (ask c (LayoutRefused 3 0) LayoutAllowed))) ≡ ask a (refused 1 0) (ask b (refused 2 0) (ask c (refused 3 0) rest))
+    no : Reason → Result (Unit {0}) Refusal
+    no reason = Err (record { reason = reason; place = 0 })
+
+    go : (a b c : Bool) → on_layout refused rest (ask a (no BadChipLength) (ask b (no BadUpdatePlace) (ask c (no BadUpdateLength) (Ok tt)))) ≡ ask a (refused BadChipLength 0) (ask b (refused BadUpdatePlace 0) (ask c (refused BadUpdateLength 0) rest))
     go true true true = refl
     go true true false = refl
     go true false c = refl
     go false b c = refl
 
 -- An allowed layout had a yes to each question.
-pub allowed_asks : (layout : Layout) → layout_answer layout ≡ LayoutAllowed →
+pub allowed_asks : (layout : Layout) → layout_answer layout ≡ Ok tt →
     (chip_length_allowed layout.chip_length ≡ true) × (update_place_allowed layout.chip_length layout.update_place ≡ true) × (update_length_allowed layout.chip_length layout.update_place layout.update_length ≡ true)
 unfolding layout_answer ask_layout
 allowed_asks layout e =
-    let a = asked _ _ _ _ e (refused_allowed 1 0) in
-    let b = asked _ _ _ _ a.1 (refused_allowed 2 0) in
-    let c = asked _ _ _ _ b.1 (refused_allowed 3 0) in
+    let a = asked _ _ _ _ e (refused_allowed BadChipLength) in
+    let b = asked _ _ _ _ a.1 (refused_allowed BadUpdatePlace) in
+    let c = asked _ _ _ _ b.1 (refused_allowed BadUpdateLength) in
     (a.0, b.0, c.0)
   where
-    refused_allowed : (number place : ℕ) → LayoutRefused number place ≡ LayoutAllowed → ⊥
-    refused_allowed number place q = let z : ◌≡◌ {A = ℕ} 0 1 = cc in omega arith
+    refused_allowed : (reason : Reason) → refused {A = Unit {0}} reason 0 ≡ Ok tt → ⊥
+    refused_allowed reason q = let z : ◌≡◌ {A = ℕ} 0 1 = cc in omega arith
 
 -- Questions 1 to 4 go by the answer to 1 to 3,
-pub numbers_by_layout : (layout : Layout) (n : ℕ) (answer : LayoutAnswer) → layout_answer layout ≡ answer → on_layout LayoutRefused (ask (image_length_allowed layout.update_length n) (LayoutRefused 4 0) LayoutAllowed) answer ≡ numbers_answer layout n
+pub numbers_by_layout : (layout : Layout) (n : ℕ) (answer : Result (Unit {0}) Refusal) → layout_answer layout ≡ answer → on_layout refused (ask (image_length_allowed layout.update_length n) (refused BadImageLength 0) (Ok tt)) answer ≡ numbers_answer layout n
 unfolding numbers_answer ask_numbers
-numbers_by_layout layout n answer e = rw (sym e) (by_layout LayoutRefused _ layout)
+numbers_by_layout layout n answer e = rw (sym e) (by_layout refused _ layout)
 
 -- and whatever is asked after them goes by theirs.
-pub by_numbers {ℓ} : {A : Type ℓ} (refused : ℕ → ℕ → A) (rest : A) (layout : Layout) (n : ℕ) (answer : LayoutAnswer) → numbers_answer layout n ≡ answer → on_layout refused rest answer ≡ ask_numbers refused layout n rest
+pub by_numbers {ℓ} : {A : Type ℓ} (refused : Reason → ℕ → A) (rest : A) (layout : Layout) (n : ℕ) (answer : Result (Unit {0}) Refusal) → numbers_answer layout n ≡ answer → on_layout refused rest answer ≡ ask_numbers refused layout n rest
 unfolding numbers_answer ask_numbers on_layout ask
-by_numbers refused rest layout n answer e =
+by_numbers {A = A} refused rest layout n answer e =
     ap (on_layout refused rest) (sym e)
-    ∙ ap (on_layout refused rest) (sym (by_layout LayoutRefused _ layout))
+    ∙ ap (on_layout refused rest) (sym (by_layout no _ layout))
     ∙ go (layout_answer layout) (image_length_allowed layout.update_length n)
     ∙ by_layout refused _ layout
   where
-    go : (l : LayoutAnswer) (b : Bool) → on_layout refused rest (on_layout LayoutRefused (ask b (LayoutRefused 4 0) LayoutAllowed) l) ≡ on_layout refused (ask b (refused 4 0) rest) l
-    go LayoutAllowed true = refl
-    go LayoutAllowed false = refl
-    go (LayoutRefused number place) b = refl
+    no : Reason → ℕ → Result (Unit {0}) Refusal
+    no reason place = Err (record { reason = reason; place = place })
+
+    go : (l : Result (Unit {0}) Refusal) (b : Bool) → on_layout refused rest (on_layout no (ask b (no BadImageLength 0) (Ok tt)) l) ≡ on_layout refused (ask b (refused BadImageLength 0) rest) l
+    go (Ok allowed) true = refl
+    go (Ok allowed) false = refl
+    go (Err r) b = refl
 
 -- Numbers that are allowed had a yes to each question.
-pub numbers_asked : (layout : Layout) (n : ℕ) → numbers_answer layout n ≡ LayoutAllowed → (layout_answer layout ≡ LayoutAllowed) × (image_length_allowed layout.update_length n ≡ true)
+pub numbers_asked : (layout : Layout) (n : ℕ) → numbers_answer layout n ≡ Ok tt → (layout_answer layout ≡ Ok tt) × (image_length_allowed layout.update_length n ≡ true)
 unfolding on_layout ask
 numbers_asked layout n e = go (layout_answer layout) (image_length_allowed layout.update_length n) refl refl (numbers_by_layout layout n (layout_answer layout) refl ∙ e)
   where
-    go : (l : LayoutAnswer) (b : Bool) → layout_answer layout ≡ l → image_length_allowed layout.update_length n ≡ b → on_layout LayoutRefused (ask b (LayoutRefused 4 0) LayoutAllowed) l ≡ LayoutAllowed → (layout_answer layout ≡ LayoutAllowed) × (image_length_allowed layout.update_length n ≡ true)
-    go LayoutAllowed true p q h = (p, q)
-    go LayoutAllowed false p q h = let z : ◌≡◌ {A = ℕ} 0 1 = cc in absurd (omega arith)
-    go (LayoutRefused number place) b p q h = let z : ◌≡◌ {A = ℕ} 0 1 = cc in absurd (omega arith)
+    go : (l : Result (Unit {0}) Refusal) (b : Bool) → layout_answer layout ≡ l → image_length_allowed layout.update_length n ≡ b → on_layout refused (ask b (refused BadImageLength 0) (Ok tt)) l ≡ Ok tt → (layout_answer layout ≡ Ok tt) × (image_length_allowed layout.update_length n ≡ true)
+    go (Ok allowed) true p q h = (p, q)
+    go (Ok allowed) false p q h = let z : ◌≡◌ {A = ℕ} 0 1 = cc in absurd (omega arith)
+    go (Err r) b p q h = let z : ◌≡◌ {A = ℕ} 0 1 = cc in absurd (omega arith)

@@ -1,9 +1,9 @@
 -- A chip's fixed numbers, its layout, and the questions about lengths and places. Document 01, "The chip" and "Questions at the door".
-use Rattle.std.specs.Prelude.{ℕ, ◌+◌, ◌%◌, Bool, false, [], eqb, leb, ltb}
-use Rattle.base.specs.Answer.{Numbered, result, refusal}
+use Rattle.std.specs.Prelude.{ℕ, ◌+◌, ◌%◌, Bool, false, [], Result, Ok, eqb, leb, ltb}
+use Rattle.base.specs.Answer.{Numbered, in_numbers}
 use Rattle.base.specs.Question.{ask}
-use Rattle.base.specs.Refusal.{bad_chip_length, bad_update_place, bad_update_length, bad_image_length}
-use Rattle.kind.specs.Types.{Layout, LayoutAnswer, LayoutAllowed, LayoutRefused}
+use Rattle.base.specs.Refusal.{refused}
+use Rattle.kind.specs.Types.{Reason, BadChipLength, BadUpdatePlace, BadUpdateLength, BadImageLength, Refusal, Layout}
 
 -- A chip has 16,384 to 16,777,216 bytes.
 abbrev pub shortest_chip : ℕ
@@ -49,25 +49,24 @@ unfoldable pub image_length_allowed : ℕ → ℕ → Bool
 image_length_allowed longest image_length = ask (leb 1 image_length) false (leb image_length longest)
 
 -- Questions 1 to 3, in order, and what is asked next.
-unfoldable pub ask_layout {ℓ} : {A : Type ℓ} → (ℕ → ℕ → A) → Layout → A → A
+unfoldable pub ask_layout {ℓ} : {A : Type ℓ} → (Reason → ℕ → A) → Layout → A → A
 ask_layout refused layout rest =
-    ask (chip_length_allowed layout.chip_length) (refused bad_chip_length 0)
-    (ask (update_place_allowed layout.chip_length layout.update_place) (refused bad_update_place 0)
-    (ask (update_length_allowed layout.chip_length layout.update_place layout.update_length) (refused bad_update_length 0) rest))
+    ask (chip_length_allowed layout.chip_length) (refused BadChipLength 0)
+    (ask (update_place_allowed layout.chip_length layout.update_place) (refused BadUpdatePlace 0)
+    (ask (update_length_allowed layout.chip_length layout.update_place layout.update_length) (refused BadUpdateLength 0) rest))
 
 -- Questions 1 to 4 of a run that is only numbers yet: a layout, and the length of an image for its update area; and what is asked next.
-unfoldable pub ask_numbers {ℓ} : {A : Type ℓ} → (ℕ → ℕ → A) → Layout → ℕ → A → A
-ask_numbers refused layout n rest = ask_layout refused layout (ask (image_length_allowed layout.update_length n) (refused bad_image_length 0) rest)
+unfoldable pub ask_numbers {ℓ} : {A : Type ℓ} → (Reason → ℕ → A) → Layout → ℕ → A → A
+ask_numbers refused layout n rest = ask_layout refused layout (ask (image_length_allowed layout.update_length n) (refused BadImageLength 0) rest)
 
 -- in numbers: a layout that is allowed has no values
-unfoldable pub layout_numbers : LayoutAnswer → Numbered
-layout_numbers LayoutAllowed = result []
-layout_numbers (LayoutRefused number place) = refusal number place
+abbrev pub layout_numbers : Result (Unit {0}) Refusal → Numbered
+layout_numbers = in_numbers (λ allowed. [])
 
 -- `Layout::check`: questions 1 to 3
-unfoldable pub layout_answer : Layout → LayoutAnswer
-layout_answer layout = ask_layout LayoutRefused layout LayoutAllowed
+unfoldable pub layout_answer : Layout → Result (Unit {0}) Refusal
+layout_answer layout = ask_layout refused layout (Ok tt)
 
 -- `Layout::check_with_image`: questions 1 to 4
-unfoldable pub numbers_answer : Layout → ℕ → LayoutAnswer
-numbers_answer layout n = ask_numbers LayoutRefused layout n LayoutAllowed
+unfoldable pub numbers_answer : Layout → ℕ → Result (Unit {0}) Refusal
+numbers_answer layout n = ask_numbers refused layout n (Ok tt)

@@ -4,7 +4,7 @@ ghost use Rattle.base.specs.Answer.{Gives};
 ghost use Rattle.kind.specs.Layout.{chip_length_allowed, update_place_allowed, update_length_allowed, image_length_allowed, layout_numbers, layout_answer, numbers_answer};
 
 use crate::spi::Spi;
-use base::refusal;
+use base::refusal::{Reason, Refusal, ask};
 
 // F, U and A of document 01: the chip's length, where its update area begins, and how long that is.
 #[derive(Clone, Copy)]
@@ -12,13 +12,6 @@ pub struct Layout {
     pub chip_length: usize,
     pub update_place: usize,
     pub update_length: usize,
-}
-
-// Whether there can be a chip with a layout: the answer to questions 1 to 3.
-#[derive(Drop)]
-pub enum LayoutAnswer {
-    Allowed,
-    Refused { number: u32, place: usize },
 }
 
 // Question 1: can a chip have this length?
@@ -75,46 +68,21 @@ pub fn image_length_allowed(longest: usize, length: usize) -> bool
 
 impl Layout {
     // Whether a chip can have this layout: questions 1 to 3, in order; or refusal 1 to 3.
-    pub fn check(self) -> LayoutAnswer
+    #[tactic(auto, unfolding(crate::specs::Layout::layout_answer, crate::specs::Layout::ask_layout, base::specs::Question::ask), using(base::proofs::Laws::gives))]
+    pub fn check(self) -> Result<(), Refusal>
         ensures { Gives layout_numbers result (layout_answer self) }
     {
-        if !chip_length_allowed(self.chip_length) {
-            return LayoutAnswer::Refused {
-                number: refusal::BAD_CHIP_LENGTH,
-                place: 0,
-            };
-        }
-        if !update_place_allowed(self.chip_length, self.update_place) {
-            return LayoutAnswer::Refused {
-                number: refusal::BAD_UPDATE_PLACE,
-                place: 0,
-            };
-        }
-        if !update_length_allowed(self.chip_length, self.update_place, self.update_length) {
-            return LayoutAnswer::Refused {
-                number: refusal::BAD_UPDATE_LENGTH,
-                place: 0,
-            };
-        }
-        LayoutAnswer::Allowed
+        ask(chip_length_allowed(self.chip_length), Reason::BadChipLength)?;
+        ask(update_place_allowed(self.chip_length, self.update_place), Reason::BadUpdatePlace)?;
+        ask(update_length_allowed(self.chip_length, self.update_place, self.update_length), Reason::BadUpdateLength)
     }
 
     // Whether a run can have this layout with an image of so many bytes: questions 1 to 4, in order; or refusal 1 to 4.
-    pub fn check_with_image(self, image_length: usize) -> LayoutAnswer
+    #[tactic(auto, unfolding(crate::specs::Layout::numbers_answer, crate::specs::Layout::ask_numbers, crate::specs::Layout::layout_answer, crate::specs::Layout::ask_layout, base::specs::Question::ask), using(base::proofs::Laws::gives))]
+    pub fn check_with_image(self, image_length: usize) -> Result<(), Refusal>
         ensures { Gives layout_numbers result (numbers_answer self image_length) }
     {
-        let allowed = self.check();
-        match allowed {
-            LayoutAnswer::Allowed => {
-                if image_length_allowed(self.update_length, image_length) {
-                    return LayoutAnswer::Allowed;
-                }
-                LayoutAnswer::Refused {
-                    number: refusal::BAD_IMAGE_LENGTH,
-                    place: 0,
-                }
-            }
-            LayoutAnswer::Refused { number, place } => LayoutAnswer::Refused { number, place },
-        }
+        self.check()?;
+        ask(image_length_allowed(self.update_length, image_length), Reason::BadImageLength)
     }
 }

@@ -54,15 +54,16 @@ impl Spi {
     pub fn warm_boot_words(update_place: usize) -> [u8; 20]
         ensures { result ≡ spi_warm_boot update_place }
     {
+        let [a, b, c, d] = ((update_place % 4_294_967_296) as u32).to_be_bytes();
         [
             0x30,
             0x02,
             0x00,
             0x01,
-            (update_place / 16_777_216 % 256) as u8,
-            (update_place / 65_536 % 256) as u8,
-            (update_place / 256 % 256) as u8,
-            (update_place % 256) as u8,
+            a,
+            b,
+            c,
+            d,
             0x30,
             0x00,
             0x80,
