@@ -19,13 +19,11 @@ pub fn state_after(begun: State, cut: usize) -> State
     ensures { result ≡ state_after (min cut (total begun.layout begun.image_length)) begun }
 {
     let mut state = begun;
-    let mut i = 0;
-    while i < cut {
+    for _ in 0..cut {
         if state.phase >= 7 {
             return state;
         }
         state = after_order(state);
-        i += 1;
     }
     state
 }
@@ -57,13 +55,11 @@ pub fn obey_orders(chip: &mut [u8], begun: State, image: &[u8], cut: usize)
     ensures { chip.new ≡ chip_after spi begun.layout image.now cut chip.old }
 {
     let mut state = begun;
-    let mut i = 0;
-    while i < cut {
+    for _ in 0..cut {
         if state.phase >= 7 {
             return;
         }
         obey_order(chip, state, image);
         state = after_order(state);
-        i += 1;
     }
 }

@@ -16,30 +16,30 @@ found : (begun : State) (cut i : ℕ) (state : State) → begun ≡ first begun.
     state ≡ state_after (min cut (total begun.layout begun.image_length)) begun
 found begun cut i state e r q = r.is ∙ ap₂ state_after q (sym e)
 
-pub loop-i-init : goal.loop-i-init
-loop-i-init c = (omega arith, reaches_first c.args.begun.layout c.args.begun.image_length c.args.begun c.requires.0 c.requires.1)
+pub loop-init : goal.loop-init
+loop-init c = reaches_first c.args.begun.layout c.args.begun.image_length c.args.begun c.requires.0 c.requires.1
 
 pub returns-then-state-ge7 : goal.returns-then-state-ge7
 returns-then-state-ge7 c =
     let begun = c.args.begun in
-    let l = c.loop-i in
-    let t = reaches_ended begun.layout begun.image_length l.i l.state l.invariant.1 (le-ltb _ _ c.if-state-ge7.true) in
-    found begun c.args.cut l.i l.state c.requires.0 l.invariant.1 (omega arith)
+    let l = c.loop in
+    let t = reaches_ended begun.layout begun.image_length l.counter l.state l.invariant (le-ltb _ _ c.if-state-ge7.true) in
+    found begun c.args.cut l.counter l.state c.requires.0 l.invariant (omega arith)
 
 pub after_order-state-requires : goal.after_order-state-requires
 after_order-state-requires c =
-    let l = c.loop-i in
-    (fits_own l.state c.args.begun.image_length l.invariant.1.fit, lt-ltb l.state.phase 7 (omega arith))
+    let l = c.loop in
+    (fits_own l.state c.args.begun.image_length l.invariant.fit, lt-ltb l.state.phase 7 (omega arith))
 
-pub loop-i-preserved : goal.loop-i-preserved
-loop-i-preserved c =
+pub loop-preserved : goal.loop-preserved
+loop-preserved c =
     let begun = c.args.begun in
-    let l = c.loop-i in
-    (omega arith, subst (Reaches begun.layout begun.image_length _) (sym c.after_order-state.ensures) (reaches_next begun.layout begun.image_length l.i l.state l.invariant.1 (lt-ltb l.state.phase 7 (omega arith))))
+    let l = c.loop in
+    subst (Reaches begun.layout begun.image_length _) (sym c.after_order-state.ensures) (reaches_next begun.layout begun.image_length l.counter l.state l.invariant (lt-ltb l.state.phase 7 (omega arith)))
 
 pub returns : goal.returns
 returns c =
     let begun = c.args.begun in
-    let l = c.loop-i in
-    let t = reaches_most begun.layout begun.image_length l.i l.state l.invariant.1 in
-    found begun c.args.cut l.i l.state c.requires.0 l.invariant.1 (omega arith)
+    let l = c.loop in
+    let t = reaches_most begun.layout begun.image_length l.counter l.state l.invariant in
+    found begun c.args.cut l.counter l.state c.requires.0 l.invariant (omega arith)
