@@ -1,10 +1,17 @@
--- The answer to a reply that was judged. Only contracts of functions that are no public calls cite it.
-use Rattle.base.specs.Refusal.{bad_reply}
-use Rattle.updater.specs.Types.{Judgement, NotAsked, Agrees, JudgedDiffers, State, ReplyAnswer, Next, Stopped, ReplyRefused}
-use Rattle.updater.specs.State.{after, ended}
-use Rattle.updater.specs.Run.{stop_of}
+-- Questions 6 and 7 by themselves, and the answer to a reply that was judged. Only contracts of functions that are no public calls cite it.
+use Rattle.std.specs.Prelude.{ℕ, Unit, tt, Result, Ok}
+use Rattle.base.specs.Types.{BadState, RunEnded, BadReply, Refusal}
+use Rattle.base.specs.Refusal.{refused}
+use Rattle.base.specs.Question.{ask}
+use Rattle.updater.specs.Types.{Judgement, NotAsked, Agrees, JudgedDiffers, State, Reply, Next, Stopped, RefusedReply}
+use Rattle.updater.specs.State.{after, ended, fits, running}
+use Rattle.updater.specs.Run.{refused_reply, stop_of}
 
-unfoldable pub on_judged : Judgement → State → ReplyAnswer
-on_judged NotAsked state = ReplyRefused bad_reply 0 state
-on_judged Agrees state = Next (after state)
-on_judged (JudgedDiffers address) state = Stopped (stop_of state.phase) address (ended state (stop_of state.phase))
+-- does the state fit, and does the run go on?
+unfoldable pub running_asked : State → ℕ → Result (Unit {0}) Refusal
+running_asked state lent = ask (fits state lent) (refused BadState 0) (ask (running state) (refused RunEnded 0) (Ok tt))
+
+unfoldable pub on_judged : Judgement → State → Result Reply RefusedReply
+on_judged NotAsked state = refused_reply BadReply 0 state
+on_judged Agrees state = Ok (Next (after state))
+on_judged (JudgedDiffers address) state = Ok (Stopped (stop_of state.phase) address (ended state (stop_of state.phase)))

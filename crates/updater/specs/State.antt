@@ -1,6 +1,7 @@
 -- A run's state, and its current order. Run, phase and outcome are document 01's terms. Document 01, "Orders of one run" and question 6.
 use Rattle.std.specs.Prelude.{ℕ, ◌+◌, Bool, true, false, List, [], ◌∷◌, eqb, leb, ltb, get_or}
-use Rattle.base.specs.Refusal.{switch_not_erased, switch_not_on}
+use Rattle.base.specs.Types.{SwitchNotErased, SwitchNotOn}
+use Rattle.base.specs.Refusal.{number_of}
 use Rattle.base.specs.Question.{ask}
 use Rattle.kind.specs.Layout.{image_length_allowed, ask_layout}
 use Rattle.kind.specs.Kind.{Kind}
@@ -38,7 +39,7 @@ running state = ltb state.phase 7
 
 -- An ended run's outcome is 0, or 10 to 12.
 unfoldable pub outcome_allowed : ℕ → Bool
-outcome_allowed outcome = elim (eqb outcome 0) [ true ↦ true | false ↦ ask (leb switch_not_erased outcome) false (leb outcome switch_not_on) ]
+outcome_allowed outcome = elim (eqb outcome 0) [ true ↦ true | false ↦ ask (leb (number_of SwitchNotErased) outcome) false (leb outcome (number_of SwitchNotOn)) ]
 
 -- Phase, index and outcome: before phase 7 the index of one of the phase's orders, and outcome 0; in phase 7 index 0.
 unfoldable pub phase_consistent : State → Bool
@@ -51,7 +52,7 @@ phase_consistent state =
 -- Question 6: does the state fit: question 1 to 4 numbers, phase, index, outcome, n the lent length?
 unfoldable pub fits : State → ℕ → Bool
 fits state lent =
-    ask_layout (λ number place. false) state.layout
+    ask_layout (λ reason place. false) state.layout
     (ask (image_length_allowed state.layout.update_length state.image_length) false
     (ask (phase_consistent state) false (eqb state.image_length lent)))
 

@@ -5,40 +5,27 @@ ghost use Rattle.std.specs.Prelude.{◌≡◌, true, length};
 ghost use Rattle.base.specs.Answer.{Gives};
 ghost use Rattle.kind.specs.Spi.{spi};
 ghost use Rattle.updater.specs.State.{ended, fits, running};
-ghost use Rattle.updater.specs.Judging.{on_judged};
-ghost use Rattle.updater.specs.Run.{finished_numbers, finished_case, finished_answer, order_numbers, order_refused, order_answer, reply_numbers, stop_of, reply_answer};
+ghost use Rattle.updater.specs.Judging.{running_asked, on_judged};
+ghost use Rattle.updater.specs.Run.{finished_numbers, finished_answer, order_numbers, order_answer, reply_numbers, refused_reply, stop_of, reply_answer};
 
 use crate::state::{State, after_order, current_bytes, current_operation, fits_image};
-use base::refusal;
+use crate::state::{State, after_order, current_bytes, current_operation, fits_image};
+use base::refusal::{Reason, Refusal, ask};
 use orders::judging::{Judgement, judge};
 use orders::{Operation, judging};
 
-// Whether a run goes on; ended, with which outcome.
-#[derive(Drop)]
-pub enum FinishedAnswer {
-    Running,
-    Ended { outcome: u32 },
-    Refused { number: u32, place: usize },
-}
-
-// The current order, or a refusal.
-#[derive(Drop)]
-pub enum OrderResult {
-    Ordered { operation: Operation },
-    Refused { number: u32, place: usize },
-}
-
-// The current order with the bytes of a program, FF after them; all FF where nothing is programmed.
+// The current order, or a refusal, with the bytes of a program, FF after them; all FF where nothing is programmed.
+// Stays: order_numbers and order_answer (clause of State::order) hold the bytes beside a refusal too.
 #[derive(Drop)]
 pub struct OrderAnswer {
-    pub result: OrderResult,
+    pub result: Result<Operation, Refusal>,
     pub bytes: [u8; 256],
 }
 
-// The state that a reply hands back: the next one; after a stop, with its number and the first address
-// that differs; after a refusal the one that was given.
+// What a reply comes to: the next state; or a stop, with its number, the first address that differs, and the state that
+// has ended.
 #[derive(Drop)]
-pub enum ReplyAnswer {
+pub enum Reply {
     Next {
         state: State,
     },
@@ -47,23 +34,13 @@ pub enum ReplyAnswer {
         place: usize,
         state: State,
     },
-    Refused {
-        number: u32,
-        place: usize,
-        state: State,
-    },
 }
 
-// Whether a run has ended, and how.
-fn ended_how(state: State) -> FinishedAnswer
-    ensures { result ≡ finished_case (running state) state }
-{
-    if state.phase < 7 {
-        return FinishedAnswer::Running;
-    }
-    FinishedAnswer::Ended {
-        outcome: state.outcome,
-    }
+// A reply that is refused: why, and the state that was given.
+#[derive(Drop)]
+pub struct RefusedReply {
+    pub refusal: Refusal,
+    pub state: State,
 }
 
 // The number of a stop in a phase.
@@ -71,9 +48,9 @@ fn stop_number(phase: u32) -> u32
     ensures { result ≡ stop_of phase }
 {
     match phase {
-        1 => refusal::SWITCH_NOT_ERASED,
-        4 => refusal::UPDATE_DIFFERS,
-        6 => refusal::SWITCH_NOT_ON,
+        1 => Reason::SwitchNotErased.number(),
+        4 => Reason::UpdateDiffers.number(),
+        6 => Reason::SwitchNotOn.number(),
         _ => 0,
     }
 }
@@ -82,45 +59,42 @@ fn stop_number(phase: u32) -> u32
 fn stopped(state: State, outcome: u32) -> State
     ensures { result ≡ ended state outcome }
 {
-    let mut handed = state;
-    handed.phase = 7;
-    handed.index = 0;
-    handed.outcome = outcome;
-    handed
+    State {
+        phase: 7,
+        index: 0,
+        outcome,
+        ..state
+    }
+}
+
+// A reply that is refused hands back the state that was given.
+fn refused(reason: Reason, state: State) -> Result<Reply, RefusedReply>
+    ensures { result ≡ refused_reply reason 0 state }
+{
+    Err(RefusedReply {
+        refusal: Refusal { reason, place: 0 },
+        state,
+    })
 }
 
 // The answer to a reply that was judged.
-fn reply_judged(state: State, judgement: Judgement) -> ReplyAnswer
+fn reply_judged(state: State, judgement: Judgement) -> Result<Reply, RefusedReply>
     requires { (fits state state.image_length ≡ true) × (running state ≡ true) }
     ensures { result ≡ on_judged judgement state }
 {
     match judgement {
-        Judgement::NotAsked => ReplyAnswer::Refused {
-            number: refusal::BAD_REPLY,
-            place: 0,
-            state,
-        },
-        Judgement::Agrees => ReplyAnswer::Next {
+        Judgement::NotAsked => refused(Reason::BadReply, state),
+        Judgement::Agrees => Ok(Reply::Next {
             state: after_order(state),
-        },
+        }),
         Judgement::Differs { address } => {
             let number = stop_number(state.phase);
-            ReplyAnswer::Stopped {
+            Ok(Reply::Stopped {
                 number,
                 place: address,
                 state: stopped(state, number),
-            }
+            })
         }
-    }
-}
-
-// What is beside the refusal of an order.
-fn no_order(number: u32) -> OrderAnswer
-    ensures { result ≡ order_refused number }
-{
-    OrderAnswer {
-        result: OrderResult::Refused { number, place: 0 },
-        bytes: [0xFF; 256],
     }
 }
 
@@ -130,33 +104,37 @@ impl State {
 
     pub const READ: u32 = judging::READ;
 
-    // That the run goes on, or its outcome; or refusal 7.
-    pub fn finished(self) -> FinishedAnswer
+    // The outcome of a run that has ended, none of one that goes on; or refusal 7.
+    pub fn finished(self) -> Result<Option<u32>, Refusal>
         ensures { Gives finished_numbers result (finished_answer self) }
     {
-        if !fits_image(self, self.image_length) {
-            return FinishedAnswer::Refused {
-                number: refusal::BAD_STATE,
-                place: 0,
-            };
+        ask(fits_image(self, self.image_length), Reason::BadState)?;
+        if self.phase < 7 {
+            return Ok(None);
         }
-        ended_how(self)
+        Ok(Some(self.outcome))
+    }
+
+    // Questions 6 and 7: whether the state fits an image of `lent` bytes, and the run goes on.
+    fn ask_running(self, lent: usize) -> Result<(), Refusal>
+        ensures { result ≡ running_asked self lent }
+    {
+        ask(fits_image(self, lent), Reason::BadState)?;
+        ask(self.phase < 7, Reason::RunEnded)
     }
 
     // The order that the state asks for, with the bytes of a program; or refusal 7 or 8. The image is the run's.
     pub fn order(self, image: &[u8]) -> OrderAnswer
         ensures { Gives order_numbers result (order_answer spi self image.now) }
     {
-        if !fits_image(self, image.len()) {
-            return no_order(refusal::BAD_STATE);
-        }
-        if self.phase >= 7 {
-            return no_order(refusal::RUN_ENDED);
+        if let Err(refusal) = self.ask_running(image.len()) {
+            return OrderAnswer {
+                result: Err(refusal),
+                bytes: [0xFF; 256],
+            };
         }
         OrderAnswer {
-            result: OrderResult::Ordered {
-                operation: current_operation(self),
-            },
+            result: Ok(current_operation(self)),
             bytes: current_bytes(self, image),
         }
     }
@@ -164,22 +142,19 @@ impl State {
     // The next state; or a stop, 10 to 12, with the state that has ended; or refusal 7, 8 or 9 with the state that
     // was given. The image is the run's: it is lent again, so that what a look is to find is always the image's own
     // bytes.
-    pub fn reply(self, image: &[u8], reply_kind: u32, bytes: &[u8]) -> ReplyAnswer
+    pub fn reply(
+        self,
+        image: &[u8],
+        reply_kind: u32,
+        bytes: &[u8],
+    ) -> Result<Reply, RefusedReply>
         ensures { Gives reply_numbers result (reply_answer spi self image.now reply_kind bytes.now) }
     {
-        if !fits_image(self, image.len()) {
-            return ReplyAnswer::Refused {
-                number: refusal::BAD_STATE,
-                place: 0,
+        if let Err(refusal) = self.ask_running(image.len()) {
+            return Err(RefusedReply {
+                refusal,
                 state: self,
-            };
-        }
-        if self.phase >= 7 {
-            return ReplyAnswer::Refused {
-                number: refusal::RUN_ENDED,
-                place: 0,
-                state: self,
-            };
+            });
         }
         let judgement = judge(
             self.layout,

@@ -6,12 +6,14 @@ ghost use Rattle.kind.specs.Spi.{spi};
 ghost use Rattle.orders.specs.Orders.{operation_of, order_bytes};
 ghost use Rattle.updater.specs.State.{outcome_allowed, phase_consistent, fits, running, after, current_order};
 
-use base::refusal;
-use kind::layout::{Layout, LayoutAnswer, image_length_allowed};
+use base::refusal::Reason;
+use kind::layout::Layout;
 use orders::{Operation, bytes_at, operation_at, orders_in};
 
 // Where a run is: its layout, the length of its image, phase, index of the order in the phase (0 in
 // phase 7), and outcome (0; 10 to 12 in phase 7 after a stop).
+// Stays: finished_answer, order_answer and reply_answer hold it that phase and outcome are numbers: the calls are promised for
+// every number that a host hands in, and a state that does not fit is refused and handed back as it came.
 #[derive(Clone, Copy)]
 pub struct State {
     pub layout: Layout,
@@ -27,10 +29,7 @@ fn outcome_allowed(outcome: u32) -> bool
     if outcome == 0 {
         return true;
     }
-    if outcome < refusal::SWITCH_NOT_ERASED {
-        return false;
-    }
-    outcome <= refusal::SWITCH_NOT_ON
+    Reason::SwitchNotErased.number() <= outcome && outcome <= Reason::SwitchNotOn.number()
 }
 
 // Whether phase, index and outcome go together.
@@ -38,41 +37,16 @@ fn phase_consistent(state: State) -> bool
     ensures { result ≡ phase_consistent state }
 {
     if state.phase < 7 {
-        if state.index >= orders_in(state.layout, state.image_length, state.phase) {
-            return false;
-        }
-        return state.outcome == 0;
+        return state.index < orders_in(state.layout, state.image_length, state.phase) && state.outcome == 0;
     }
-    if state.phase != 7 {
-        return false;
-    }
-    if state.index != 0 {
-        return false;
-    }
-    outcome_allowed(state.outcome)
+    state.phase == 7 && state.index == 0 && outcome_allowed(state.outcome)
 }
 
 // Question 6, for an image of `lent` bytes.
 pub(crate) fn fits_image(state: State, lent: usize) -> bool
     ensures { result ≡ fits state lent }
 {
-    let layout = state.layout;
-    let allowed = layout.check();
-    match allowed {
-        LayoutAnswer::Allowed => {
-            if !image_length_allowed(layout.update_length, state.image_length) {
-                return false;
-            }
-            if !phase_consistent(state) {
-                return false;
-            }
-            state.image_length == lent
-        }
-        LayoutAnswer::Refused {
-            number: _,
-            place: _,
-        } => false,
-    }
+    state.layout.check_with_image(state.image_length).is_ok() && phase_consistent(state) && state.image_length == lent
 }
 
 // The current order, as far as it can be said without the image.
@@ -96,12 +70,15 @@ pub fn after_order(state: State) -> State
     requires { (fits state state.image_length ≡ true) × (running state ≡ true) }
     ensures { result ≡ after state }
 {
-    let mut next = state;
     if state.index + 1 < orders_in(state.layout, state.image_length, state.phase) {
-        next.index = state.index + 1;
-    } else {
-        next.phase = state.phase + 1;
-        next.index = 0;
+        return State {
+            index: state.index + 1,
+            ..state
+        };
     }
-    next
+    State {
+        phase: state.phase + 1,
+        index: 0,
+        ..state
+    }
 }
