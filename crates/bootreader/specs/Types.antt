@@ -1,5 +1,7 @@
 -- The types of the code that this crate's definitions and proofs name, with their cases; each has one name in the whole tree.
-pub use Rattle.base.specs.Types.{Reason, BadChipLength, BadImageLength, ImageFault, ImageJumps, Refusal}
+pub use Rattle.base.specs.declared.refusal.Reason.{Reason}
+pub use Rattle.base.specs.declared.refusal.Reason.TheVariants.{BadChipLength, BadImageLength, ImageFault, ImageJumps}
+pub use Rattle.base.specs.declared.refusal.Refusal.{Refusal}
 pub use Rattle.packets.specs.declared.trace.Finish.TheVariants.{Ended as FinishEnded}
 pub use Rattle.packets.specs.declared.trace.Write.{Write}
 pub use Rattle.writes.specs.declared.cursor.Cursor.{Cursor}
