@@ -1,13 +1,14 @@
 -- The bench (document 01's term): a run on a chip's bytes, cut after k orders. Document 01, "Orders of one run" and question 10.
-use Rattle.std.specs.Prelude.{ℕ, Bool, true, false, ◌&&◌, List, [], ◌∷◌, eqb, leb, ltb, length, take, drop}
+use Rattle.std.specs.Prelude.{ℕ, Bool, true, false, ◌&&◌, List, [], ◌∷◌, eqb, leb, ltb, length, take, drop, Result, Ok, Err}
 use Rattle.std.specs.Int.Bits.{bit_and, bit_xor}
-use Rattle.base.specs.Refusal.{bad_damage}
-use Rattle.base.specs.Answer.{Numbered, result, refusal}
+use Rattle.base.specs.Types.{BadDamage, Refusal}
+use Rattle.base.specs.Refusal.{refused}
+use Rattle.base.specs.Answer.{Numbered, in_numbers}
 use Rattle.base.specs.Question.{ask}
 use Rattle.kind.specs.Layout.{segment, layout_of}
 use Rattle.flash.specs.Flash.{span}
 use Rattle.kind.specs.Kind.{Kind}
-use Rattle.bench.specs.Types.{Layout, BenchAnswer, Reached, BenchRefused}
+use Rattle.bench.specs.Types.{Layout, State}
 use Rattle.updater.specs.State.{state_numbers}
 use Rattle.orders.specs.Orders.{Order, erase, program, look, orders}
 use Rattle.effects.specs.Effects.{order_place, obeyed_span, leaves}
@@ -46,21 +47,20 @@ cut_in [] chip damage = chip
 cut_in (order ∷ more) chip damage = leaves order chip (take (length (obeyed_span order chip)) damage)
 
 -- in numbers: the state that was reached
-unfoldable pub bench_numbers : BenchAnswer → Numbered
-bench_numbers (Reached state) = result (state_numbers state)
-bench_numbers (BenchRefused number place) = refusal number place
+abbrev pub bench_numbers : Result State Refusal → Numbered
+bench_numbers = in_numbers state_numbers
 
 -- `bench::cut_run`: questions 1 to 5, then 10; the run's state before order k + 1, and the chip as it then is. F is the length of the chip's bytes.
-unfoldable pub bench_answer : Kind → Layout → List ℕ → List ℕ → ℕ → List ℕ → BenchAnswer
+unfoldable pub bench_answer : Kind → Layout → List ℕ → List ℕ → ℕ → List ℕ → Result State Refusal
 bench_answer kind layout chip image k damage =
-    ask_run kind BenchRefused layout image
-    (ask (cut_allowed (drop k (orders kind layout image)) (chip_after kind layout image k chip) damage) (BenchRefused bad_damage 0)
-    (Reached (state_at layout image k)))
+    ask_run kind refused layout image
+    (ask (cut_allowed (drop k (orders kind layout image)) (chip_after kind layout image k chip) damage) (refused BadDamage 0)
+    (Ok (state_at layout image k)))
 
 -- A refusal leaves the chip as it was.
-unfoldable pub bench_output : BenchAnswer → Kind → Layout → List ℕ → List ℕ → ℕ → List ℕ → List ℕ
-bench_output (Reached state) kind layout chip image k damage = cut_in (drop k (orders kind layout image)) (chip_after kind layout image k chip) damage
-bench_output (BenchRefused number place) kind layout chip image k damage = chip
+unfoldable pub bench_output : Result State Refusal → Kind → Layout → List ℕ → List ℕ → ℕ → List ℕ → List ℕ
+bench_output (Ok state) kind layout chip image k damage = cut_in (drop k (orders kind layout image)) (chip_after kind layout image k chip) damage
+bench_output (Err r) kind layout chip image k damage = chip
 
 abbrev pub bench_layout : List ℕ → ℕ → ℕ → Layout
 bench_layout chip update_place update_length = layout_of (length chip) update_place update_length

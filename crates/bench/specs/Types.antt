@@ -5,7 +5,3 @@ pub use Rattle.kind.specs.declared.layout.Layout.{Layout}
 pub use Rattle.orders.specs.declared.Operation.{Operation}
 pub use Rattle.orders.specs.declared.Operation.TheVariants.{Erase, Program, Look}
 pub use Rattle.updater.specs.declared.state.State.{State}
-pub use Rattle.starts.specs.declared.StartAnswer.{StartAnswer}
-pub use Rattle.starts.specs.declared.StartAnswer.TheVariants.{Started, Refused as StartRefused}
-pub use Rattle.bench.specs.declared.BenchAnswer.{BenchAnswer}
-pub use Rattle.bench.specs.declared.BenchAnswer.TheVariants.{Reached, Refused as BenchRefused}

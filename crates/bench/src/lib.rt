@@ -4,8 +4,8 @@
 
 ghost use Rattle.std.specs.Prelude.{◌<◌, ◌≡◌, true, length, drop};
 ghost use Rattle.base.specs.Answer.{Gives};
-ghost use Rattle.base.specs.Question.{ask};
-ghost use Rattle.base.specs.Refusal.{bad_damage};
+ghost use Rattle.base.specs.Question.{ask as question};
+ghost use Rattle.base.specs.Refusal.{refused};
 ghost use Rattle.kind.specs.Layout.{segment};
 ghost use Rattle.flash.specs.Flash.{erased};
 ghost use Rattle.kind.specs.Spi.{spi};
@@ -13,36 +13,25 @@ ghost use Rattle.orders.specs.Orders.{orders};
 ghost use Rattle.updater.specs.State.{position, first, fits};
 ghost use Rattle.effects.specs.Progress.{chip_after, state_at};
 ghost use Rattle.bench.specs.Bench.{mixture, span_allows, cut_allowed, cut_in, bench_numbers, bench_answer, bench_output, bench_layout};
-ghost use Rattle.bench.specs.Types.{Reached, BenchRefused};
+ghost use Rattle.base.specs.Types.{BadDamage};
 
-use base::refusal;
+use base::refusal::{Reason, Refusal, ask};
 use effects::{obey_orders, state_after};
 use flash::overwrite;
 use kind::spi::Spi;
 use orders::Operation;
-use starts::{StartAnswer, start};
+use starts::start;
 use updater::state::{State, current_operation};
-
-// The run's state before the cut order, or at its end; or a refusal that left the chip as it was.
-#[derive(Drop)]
-pub enum BenchAnswer {
-    Reached { state: State },
-    Refused { number: u32, place: usize },
-}
 
 // Whether each bit of the new bytes is 1 or that of the others.
 fn mixes_with_erased(others: &[u8], new: &[u8]) -> bool
     requires { length others.now ≡ length new.now }
     ensures { result ≡ mixture others.now (erased (length others.now)) new.now }
 {
-    let mut i = 0;
-    while i < others.len() {
-        if (new[i] ^ others[i]) & (new[i] ^ 0xFF) != 0 {
-            return false;
-        }
-        i += 1;
-    }
-    true
+    others
+        .iter()
+        .zip(new)
+        .all(|(other, byte)| (*byte ^ *other) & (*byte ^ 0xFF) == 0)
 }
 
 // Question 10 for an erase or program of `count` bytes. In segment 0 either what is ordered (the erase)
@@ -106,27 +95,22 @@ fn write_damage(chip: &mut [u8], state: State, image: &[u8], damage: &[u8])
     }
 }
 
-// Question 10, and the cut, for a run that is started.
-fn cut_begun(chip: &mut [u8], begun: State, image: &[u8], cut: usize, damage: &[u8]) -> BenchAnswer
+// Question 10, and the cut, for a run that is started: its state before the cut order, or at its end.
+fn cut_begun(chip: &mut [u8], begun: State, image: &[u8], cut: usize, damage: &[u8]) -> Result<State, Refusal>
     requires { (begun ≡ first begun.layout (length image.now)) × (fits begun (length image.now) ≡ true) × (begun.layout.chip_length ≡ length chip.old) }
-    ensures answer { result ≡ ask (cut_allowed (drop cut (orders spi begun.layout image.now)) (chip_after spi begun.layout image.now cut chip.old) damage.now) (BenchRefused bad_damage 0) (Reached (state_at begun.layout image.now cut)) }
+    ensures answer { result ≡ question (cut_allowed (drop cut (orders spi begun.layout image.now)) (chip_after spi begun.layout image.now cut chip.old) damage.now) (refused BadDamage 0) (Ok (state_at begun.layout image.now cut)) }
     ensures output { chip.new ≡ bench_output result spi begun.layout chip.old image.now cut damage.now }
 {
     let reached = state_after(begun, cut);
-    if !damage_allowed(chip, reached, image, damage) {
-        return BenchAnswer::Refused {
-            number: refusal::BAD_DAMAGE,
-            place: 0,
-        };
-    }
+    ask(damage_allowed(chip, reached, image, damage), Reason::BadDamage)?;
     obey_orders(chip, begun, image, cut);
     write_damage(chip, reached, image, damage);
-    BenchAnswer::Reached { state: reached }
+    Ok(reached)
 }
 
 // Runs an update on a chip and cuts the power in the order after the first `cut`: those are obeyed in full, and
-// the first damage bytes stand in the span of the next. A cut at or above the total lets the run end. Refusals 1 to 6
-// and 13 leave the chip as it was.
+// the first damage bytes stand in the span of the next. A cut at or above the total lets the run end. The answer is the
+// run's state before the cut order, or at its end; refusals 1 to 6 and 13 leave the chip as it was.
 pub fn cut_run(
     chip: &mut [u8],
     update_place: usize,
@@ -134,14 +118,11 @@ pub fn cut_run(
     image: &[u8],
     cut: usize,
     damage: &[u8],
-) -> BenchAnswer
+) -> Result<State, Refusal>
     ensures answer { Gives bench_numbers result (bench_answer spi (bench_layout chip.old update_place update_length) chip.old image.now cut damage.now) }
     ensures output { chip.new ≡ bench_output (bench_answer spi (bench_layout chip.old update_place update_length) chip.old image.now cut damage.now) spi (bench_layout chip.old update_place update_length) chip.old image.now cut damage.now }
 {
     let layout = Spi::layout(chip.len(), update_place, update_length);
-    let started = start(layout, image);
-    match started {
-        StartAnswer::Started { state } => cut_begun(chip, state, image, cut, damage),
-        StartAnswer::Refused { number, place } => BenchAnswer::Refused { number, place },
-    }
+    let begun = start(layout, image)?;
+    cut_begun(chip, begun, image, cut, damage)
 }

@@ -7,17 +7,11 @@ ghost use Rattle.std.specs.Prelude.{◌≡◌, ◌≤◌, length};
 ghost use Rattle.filereport.specs.Filereport.{file_report, file_output};
 
 use filereport::report;
-use report::refusal::ReportAnswer;
 use std::io::Read;
 
-// One byte more than the longest text that is read, so that a longer one shows.
-fn input() -> [u8; 65537] {
-    [0; 65537]
-}
-
-// Room for the longest report.
-fn output() -> [u8; 55281] {
-    [0; 55281]
+// Room for so many bytes.
+fn buffer<const N: usize>() -> [u8; N] {
+    [0; N]
 }
 
 // Reads into a buffer until it is full or the reader is at its end: how many bytes. A read that fails counts as the
@@ -36,16 +30,13 @@ fn read_full(from: &mut impl Read, buffer: &mut [u8]) -> usize
     size
 }
 
-// The report of a text: how many bytes it has in the buffer. No report is longer than the buffer (`FileReportFits`), so the
-// branch for a refusal is never taken: that is what the proof shows.
+// The report of a text: how many bytes it has in the buffer. No report is longer than the buffer (`FileReportFits`), so none
+// is refused: that is what the proof shows.
 fn whole_report(text: &[u8], out: &mut [u8; 55281]) -> usize
     ensures value { result ≡ length (file_report text.now) }
     ensures out_after { out.new ≡ file_output text.now out.old }
 {
-    let ReportAnswer::Written { length } = report(text, out) else {
-        return 0;
-    };
-    length
+    report(text, out).unwrap()
 }
 
 // Where the report is cut or lost, standard error says so, as far as it can.
@@ -56,9 +47,10 @@ fn print(rt: &(impl Print + Eprint), report: &[u8]) {
 }
 
 fn main(rt: HostRuntime) {
-    let mut text = input();
+    // One byte more than the longest text that is read, so that a longer one shows.
+    let mut text = buffer::<65537>();
     let length = read_full(&mut rt.stdin(), &mut text);
-    let mut out = output();
+    let mut out = buffer::<55281>();
     let written = whole_report(&text[..length], &mut out);
     print(&rt, &out[..written]);
 }

@@ -2,16 +2,20 @@
 // what that chip loads.
 #![tactic(auto)]
 
-ghost use Rattle.std.specs.Prelude.{◌≡◌, length};
+ghost use Rattle.std.specs.Prelude.{◌≡◌, length, MatchResult};
 ghost use Rattle.base.specs.Answer.{Gives};
-ghost use Rattle.report.specs.Refusal.{report_numbers, written};
 ghost use Rattle.base.specs.Output.{front_filled};
-ghost use Rattle.filereport.specs.Filereport.{built_report, file_answer, file_output};
+ghost use Rattle.base.specs.Refusal.{number_of};
+ghost use Rattle.kind.specs.Spi.{spi};
+ghost use Rattle.reportlines.specs.Reportlines.{refused_line};
+ghost use Rattle.report.specs.Boot.{chip_report};
+ghost use Rattle.report.specs.Refusal.{report_numbers};
+ghost use Rattle.filereport.specs.Filereport.{file_report, file_answer, file_output};
 
-use builder::{BuildAnswer, build};
+use base::refusal::{Reason, Refusal, ask};
+use builder::build;
 use kind::spi::Spi;
-use mcs::reader::{ReadAnswer, read};
-use report::refusal::ReportAnswer;
+use mcs::reader::read;
 use report::{boot, refusal};
 
 // The longest text that is read.
@@ -24,32 +28,26 @@ fn buffer() -> [u8; 32768]
     [0; 32768]
 }
 
-// The report of a chip built with this golden image, or of the refusal to build one.
-fn built_report(golden: &[u8], out: &mut [u8]) -> ReportAnswer
-    ensures answer { result ≡ written (built_report golden.now) (length out.old) }
-    ensures output { out.new ≡ front_filled (built_report golden.now) out.old }
+// Builds a chip with the image that a text holds as its golden one; or the refusal of the text or of the image. Either is what
+// the report says.
+fn built(text: &[u8], chip: &mut [u8; 32768]) -> Result<(), Refusal>
+    ensures { MatchResult result (λ done. file_report text.now ≡ chip_report spi chip.new) (λ r. file_report text.now ≡ refused_line (number_of r.reason) r.place) }
 {
-    let mut chip = buffer();
-    let built = build(Spi::layout(32_768, 16_384, 16_384), golden, &mut chip);
-    match built {
-        BuildAnswer::Built => boot::report(&chip, out),
-        BuildAnswer::Refused { number, place } => refusal::report(number, place, out),
-    }
+    ask(text.len() <= LONGEST, Reason::NoRoom)?;
+    let mut image = buffer();
+    let length = read(text, &mut image)?;
+    build(Spi::layout(32_768, 16_384, 16_384), &image[..length], chip)
 }
 
 // The report of an image file's text. A refusal of the text or of its image is a report too; what is
 // refused, with 19, is a buffer that the report does not fit into.
-pub fn report(text: &[u8], out: &mut [u8]) -> ReportAnswer
+pub fn report(text: &[u8], out: &mut [u8]) -> Result<usize, Refusal>
     ensures answer { Gives report_numbers result (file_answer text.now (length out.old)) }
     ensures output { out.new ≡ file_output text.now out.old }
 {
-    if LONGEST < text.len() {
-        return refusal::report(base::refusal::NO_ROOM, 0, out);
-    }
-    let mut image = buffer();
-    let held = read(text, &mut image);
-    match held {
-        ReadAnswer::Read { length } => built_report(&image[..length], out),
-        ReadAnswer::Refused { number, place } => refusal::report(number, place, out),
+    let mut chip = buffer();
+    match built(text, &mut chip) {
+        Ok(()) => boot::report(&chip, out),
+        Err(r) => refusal::report(r.reason.number(), r.place, out),
     }
 }
