@@ -1,101 +1,113 @@
-// What a line asks: the word of a call, with its numbers and with its bytes, if it has those that the word wants.
+// What a line asks: a call, with its numbers and with its bytes, if it has those that the call wants.
 // For the program above it alone: no more is proved here than that its functions are safe and end.
 #![tactic(auto)]
 
 ghost use Rattle.std.specs.Prelude.{◌≤◌, length};
 
-use base::min;
-use caselines::parse::{Fields, NONE, Numbers, Word, put_fields, read_numbers, read_word};
-use caselines::words;
+use caselines::call::Call;
+use caselines::parse::{Fields, Numbers, put_fields, read_numbers};
 
-// The word of a call, its numbers, and where the last of its fields begins and ends, and the one before it begins.
-// The word is COMMENT for a line that asks nothing, and WRONG for one that has not what its word wants.
+// A call, its numbers (the last eight of the line; 0 for those that it has not), and where the last of its fields begins
+// and ends, and the one before it begins.
 #[derive(Clone, Copy)]
 pub struct Case {
-    pub key: u64,
-    pub n: Numbers,
+    pub call: Call,
+    pub numbers: [usize; 8],
     pub second: usize,
     pub third: usize,
     pub end: usize,
 }
 
-// How many numbers a word wants.
-fn numbers_wanted(key: u64) -> usize {
-    match key {
-        words::WRITE | words::ITEM => 1,
-        words::LAYOUT | words::BUILD | words::START | words::CUT => 3,
-        words::TOTAL => 4,
-        words::ORDER | words::ENDED | words::PROGRESS => 7,
-        words::REPLY => 8,
+// What a line is that begins with no call's word, or has not what its call wants.
+#[derive(Clone, Copy)]
+pub struct Wrong;
+
+// How many numbers a call wants.
+fn numbers_wanted(call: Call) -> usize {
+    match call {
+        Call::Write | Call::Item => 1,
+        Call::Layout | Call::Build | Call::Start | Call::Cut => 3,
+        Call::Total => 4,
+        Call::Order | Call::Ended | Call::Progress => 7,
+        Call::Reply => 8,
         _ => 0,
     }
 }
 
 // How many fields it wants.
-fn fields_wanted(key: u64) -> usize {
-    match key {
-        words::LAYOUT | words::TOTAL | words::ENDED | words::PROGRESS => 0,
-        words::BUILD | words::REPLY | words::READ => 2,
-        words::CUT => 3,
+fn fields_wanted(call: Call) -> usize {
+    match call {
+        Call::Layout | Call::Total | Call::Ended | Call::Progress => 0,
+        Call::Build | Call::Reply | Call::Read => 2,
+        Call::Cut => 3,
         _ => 1,
     }
 }
 
-// Whether a line has the numbers that its word wants. The kind of reply, the phase and the outcome have 32
+// Whether a line has the numbers that its call wants. The kind of reply, the phase and the outcome have 32
 // bits.
-fn numbers_fit(key: u64, n: Numbers) -> bool {
-    if n.count != numbers_wanted(key) {
+fn numbers_fit(call: Call, n: Numbers) -> bool {
+    if n.count != numbers_wanted(call) {
         return false;
     }
     if n.count < 7 {
         return true;
     }
-    (n.a | n.f | n.h) < 4_294_967_296
+    let [said, _, _, _, _, phase, _, outcome] = n.last;
+    (said | phase | outcome) < 4_294_967_296
 }
 
 // Whether it has the fields.
-fn fields_fit(key: u64, fields: Fields) -> bool {
-    if fields.end == NONE {
-        return false;
-    }
-    fields.count == fields_wanted(key) && !fields.quoted
+fn fields_fit(call: Call, fields: Fields) -> bool {
+    fields.count == fields_wanted(call) && !fields.quoted
 }
 
-// The word of the call that is asked. An empty line has nothing behind its word, not even a place.
-fn asked(word: Word, n: Numbers, fields: Fields) -> u64 {
-    if word.next == 0 {
-        return words::COMMENT;
-    }
-    let key = word.key;
-    if key == words::COMMENT {
-        return key;
-    }
-    if numbers_fit(key, n) & fields_fit(key, fields) {
-        return key;
-    }
-    words::WRONG
+// The letters of a word that count: the last eight, and of those no zero bytes in front.
+fn letters(word: &[u8]) -> &[u8] {
+    let last = &word[word.len().saturating_sub(8)..];
+    let zeros = last.iter().position(|b| *b != 0).unwrap_or(last.len());
+    &last[zeros..]
 }
 
-// What a line asks. The bytes of its fields, which stand from a slash on, are put to the front of a buffer.
-pub fn read_case(line: &[u8], given: &mut [u8]) -> Case {
-    let word = read_word(line, 0);
-    let slash = line.iter().position(|b| *b == b'/').unwrap_or(line.len());
-    let n = read_numbers(&line[0..slash], word.next);
-    let fields = put_fields(line, slash, given);
-    Case {
-        key: asked(word, n, fields),
-        n,
+// The case of a call's word, where the line has the numbers and the fields that it wants.
+fn case_of(word: &[u8], numbers: Option<Numbers>, fields: Option<Fields>) -> Option<Case> {
+    let call = Call::named(word)?;
+    let numbers = numbers?;
+    let fields = fields?;
+    if !(numbers_fit(call, numbers) && fields_fit(call, fields)) {
+        return None;
+    }
+    Some(Case {
+        call,
+        numbers: numbers.last,
         second: fields.second,
         third: fields.third,
         end: fields.end,
+    })
+}
+
+// What a line asks; nothing, where it is empty or a comment. The bytes of its fields, which stand from a slash on, are put
+// to the front of a buffer.
+pub fn read_case(line: &[u8], given: &mut [u8]) -> Result<Option<Case>, Wrong> {
+    let space = line.iter().position(|b| *b == b' ').unwrap_or(line.len());
+    let slash = line.iter().position(|b| *b == b'/').unwrap_or(line.len());
+    let word = letters(&line[..space]);
+    if line.is_empty() || word == b"#".as_slice() {
+        return Ok(None);
     }
+    let numbers = if space < slash {
+        read_numbers(&line[space + 1..slash])
+    } else {
+        Some(Numbers::none())
+    };
+    let fields = put_fields(&line[slash..], given);
+    let case = case_of(word, numbers, fields).ok_or(Wrong)?;
+    Ok(Some(case))
 }
 
 // The bytes between two places, as far as there are any.
 pub fn field(given: &[u8], from: usize, to: usize) -> &[u8] {
-    let end = min(to, given.len());
-    let start = min(from, end);
-    &given[start..end]
+    given.get(from..to).unwrap_or(&[])
 }
 
 // Copies such bytes to the front of a buffer, as many as fit: how many.
@@ -103,7 +115,7 @@ pub fn copy_field(given: &[u8], from: usize, to: usize, out: &mut [u8]) -> usize
     ensures { result ≤ length out.new }
 {
     let bytes = field(given, from, to);
-    let size = min(bytes.len(), out.len());
-    base::copy(&bytes[0..size], out);
+    let size = bytes.len().min(out.len());
+    out[..size].copy_from_slice(&bytes[..size]);
     size
 }
