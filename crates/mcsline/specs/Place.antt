@@ -1,13 +1,11 @@
 -- What only the contracts of functions that are not public calls cite: lines by their place in the text. No promise of a public call rests on it.
-use Rattle.std.specs.Prelude.{ℕ, ◌+◌, ◌*◌, ◌≤◌, ◌≡◌, true, false, List, [], ◌∷◌, eqb, length, get_or, drop}
-use Rattle.base.specs.Refusal.{bad_line}
+use Rattle.std.specs.Prelude.{ℕ, ◌+◌, ◌*◌, ◌≤◌, ◌≡◌, true, false, List, [], ◌∷◌, eqb, length, get_or, drop, Option, Some, None, Result, Ok, Err}
+use Rattle.base.specs.Types.{Reason, BadLine}
 use Rattle.digits.specs.Digit.{byte_sum}
 use Rattle.digits.specs.Pairs.{pair_at, pairs_at}
 use Rattle.mcsline.specs.Record.{LF, CR, Data, ExtendedLinearAddress, End}
-use Rattle.mcsline.specs.Line.{Pairs, line_spells, Parsed, Is, Refuses, parsed}
-use Rattle.mcsline.specs.declared.line.Shape.{Shape}
-use Rattle.mcsline.specs.declared.line.Shape.TheVariants.{Shaped, Broken as NoShape}
-use Rattle.mcsline.specs.Types.{LineAnswer, DataLine, ExtendedLinearAddressLine, EndLine, LineRefused}
+use Rattle.mcsline.specs.Line.{line_spells, Parsed, parsed}
+use Rattle.mcsline.specs.Types.{CodeLine, DataLine, ExtendedLinearAddressLine, EndLine, Shape}
 
 -- the length of a line end that begins with two characters, 0 where they are none
 unfoldable pub ending_of : ℕ → ℕ → ℕ
@@ -26,22 +24,22 @@ line_at text at = first_line (drop at text)
 
 -- a line that passes questions 14 to 16
 abbrev pub Sound : List ℕ → Type 0
-Sound line = (number : ℕ) → parsed line ≡ Refuses number → ⊥
+Sound line = (reason : Reason) → parsed line ≡ Err reason → ⊥
 
 -- a line of `count` data bytes with all its characters in order, up to `end`
 pub record Orderly (text : List ℕ) (at count end : ℕ) : Type 0 where
-  pub spells : line_spells (line_at text at) ≡ Pairs (pairs_at text (at + 1) (count + 5))
+  pub spells : line_spells (line_at text at) ≡ Some (pairs_at text (at + 1) (count + 5))
   pub counted : count ≡ pair_at text (at + 1)
   pub ends : end ≡ at + length (line_at text at)
   pub long : at + 2 * count + 11 ≤ length text
 
-unfoldable pub ShapeIs : List ℕ → ℕ → Shape → Type 0
-ShapeIs text at (Shaped count sum end) = Orderly text at count end × (sum ≡ byte_sum (pairs_at text (at + 1) (count + 5)))
-ShapeIs text at NoShape = parsed (line_at text at) ≡ Refuses bad_line
+unfoldable pub ShapeIs : List ℕ → ℕ → Option Shape → Type 0
+ShapeIs text at (Some shape) = Orderly text at shape.count shape.end × (shape.sum ≡ byte_sum (pairs_at text (at + 1) (shape.count + 5)))
+ShapeIs text at None = parsed (line_at text at) ≡ Err BadLine
 
 -- a parsed line in the code's form, with the place after it
-unfoldable pub as_line : Parsed → ℕ → LineAnswer
-as_line (Refuses number) end = LineRefused number
-as_line (Is (Data address bytes)) end = DataLine address (length bytes) end
-as_line (Is (ExtendedLinearAddress half)) end = ExtendedLinearAddressLine half end
-as_line (Is End) end = EndLine end
+unfoldable pub as_line : Parsed → ℕ → Result CodeLine Reason
+as_line (Err reason) end = Err reason
+as_line (Ok (Data address bytes)) end = Ok (DataLine address (length bytes) end)
+as_line (Ok (ExtendedLinearAddress half)) end = Ok (ExtendedLinearAddressLine half end)
+as_line (Ok End) end = Ok (EndLine end)

@@ -1,3 +1,4 @@
 -- The types of the code that this crate's definitions and proofs name, with their cases; each has one name in the whole tree.
-pub use Rattle.mcsline.specs.declared.line.LineAnswer.{LineAnswer}
-pub use Rattle.mcsline.specs.declared.line.LineAnswer.TheVariants.{Data as DataLine, ExtendedLinearAddress as ExtendedLinearAddressLine, End as EndLine, Refused as LineRefused}
+pub use Rattle.mcsline.specs.declared.line.Line.{Line as CodeLine}
+pub use Rattle.mcsline.specs.declared.line.Line.TheVariants.{Data as DataLine, ExtendedLinearAddress as ExtendedLinearAddressLine, End as EndLine}
+pub use Rattle.mcsline.specs.declared.line.Shape.{Shape}

@@ -1,5 +1,5 @@
 // One line of a text (`line`): what record it is, or its refusal. For the crate above it alone: its functions
-// ask their caller for the table of digits and for a place within the text.
+// ask their caller for a place within the text.
 
 #![tactic(auto)]
 
