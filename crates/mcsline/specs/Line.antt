@@ -1,6 +1,6 @@
 -- What one line holds. Document 01, "MCS text" and question 11.
 use Rattle.std.specs.Prelude.{ℕ, ◌+◌, ◌*◌, ◌%◌, Bool, true, false, ◌&&◌, List, [], ◌∷◌, eqb, leb, length, get_or, take, drop, Option, Some, None, Result, Ok, Err}
-use Rattle.base.specs.Types.{Reason, BadLine, BadSum, BadRecord}
+use Rattle.mcsline.specs.Types.{Reason, BadLine, BadSum, BadRecord}
 use Rattle.base.specs.Question.{ask}
 use Rattle.digits.specs.Digit.{byte_sum, digit_of, is_digit}
 use Rattle.mcsline.specs.Record.{LF, CR, COLON, Record, Data, ExtendedLinearAddress, End}

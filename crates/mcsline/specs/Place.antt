@@ -1,11 +1,10 @@
 -- What only the contracts of functions that are not public calls cite: lines by their place in the text. No promise of a public call rests on it.
 use Rattle.std.specs.Prelude.{ℕ, ◌+◌, ◌*◌, ◌≤◌, ◌≡◌, true, false, List, [], ◌∷◌, eqb, length, get_or, drop, Option, Some, None, Result, Ok, Err}
-use Rattle.base.specs.Types.{Reason, BadLine}
 use Rattle.digits.specs.Digit.{byte_sum}
 use Rattle.digits.specs.Pairs.{pair_at, pairs_at}
 use Rattle.mcsline.specs.Record.{LF, CR, Data, ExtendedLinearAddress, End}
 use Rattle.mcsline.specs.Line.{line_spells, Parsed, parsed}
-use Rattle.mcsline.specs.Types.{CodeLine, DataLine, ExtendedLinearAddressLine, EndLine, Shape}
+use Rattle.mcsline.specs.Types.{Reason, BadLine, CodeLine, DataLine, ExtendedLinearAddressLine, EndLine, Shape}
 
 -- the length of a line end that begins with two characters, 0 where they are none
 unfoldable pub ending_of : ℕ → ℕ → ℕ

@@ -1,11 +1,10 @@
 // One line of the text: its characters, its sum, its record.
 ghost use Rattle.std.specs.Prelude.{◌≡◌, ◌+◌, ◌*◌, ◌<◌, ◌≤◌, eqb, leb, length};
 ghost use Rattle.base.specs.Question.{ask};
-ghost use Rattle.base.specs.Types.{BadRecord};
 ghost use Rattle.digits.specs.Pairs.{pair_at, two_pairs_at, pairs_at};
 ghost use Rattle.mcsline.specs.Line.{typed, parsed};
 ghost use Rattle.mcsline.specs.Place.{ending_at, line_at, ShapeIs, as_line, Sound};
-ghost use Rattle.mcsline.specs.Types.{DataLine, ExtendedLinearAddressLine, EndLine};
+ghost use Rattle.mcsline.specs.Types.{BadRecord, DataLine, ExtendedLinearAddressLine, EndLine};
 
 use base::refusal::Reason;
 use digits::table::Digits;
