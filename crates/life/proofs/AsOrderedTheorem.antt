@@ -2,7 +2,7 @@
 use Prim.Native.Nat.{ℕ, ◌+◌, ◌*◌, ◌%◌, ◌<◌, ◌≤◌}
 use mathlib.Core.Path.{◌≡◌, refl, sym, ap, subst, ◌∙◌}
 use mathlib.Core.Bool.{true, false}
-use mathlib.Core.Option.{Option, some, none}
+use Rattle.std.specs.Prelude.{Option, Some, None}
 use mathlib.Core.List.{List, [], ◌∷◌}
 use native.Mathlib.Omega.{arith}
 use lib.ListN.{length, get_or}
@@ -105,8 +105,8 @@ module _ (kind : Kind) (lawful : Lawful kind) (update_place : ℕ) (first_golden
     to_ours (carries left) may = go w.run may inv.run
       where
         go : (o : Option Run) → on_run o ⊥ (λ run. LiteralOrder kind left run w) → on_run o (Unit {0}) (λ run. Holds kind update_place run w) → on_run o ⊥ (λ run. AdmissibleOrder kind left run w)
-        go none m h = absurd m
-        go (some run) m h = record { asked = m.asked; once = m.once; leaves = (same_rule w inv run h m.asked m.once left).0 m.leaves }
+        go None m h = absurd m
+        go (Some run) m h = record { asked = m.asked; once = m.once; leaves = (same_rule w inv run h m.asked m.once left).0 m.leaves }
     to_ours (replies image reply_kind bytes) may = may
     to_ours cuts may = may
 
@@ -116,8 +116,8 @@ module _ (kind : Kind) (lawful : Lawful kind) (update_place : ℕ) (first_golden
     to_words (carries left) may = go w.run may inv.run
       where
         go : (o : Option Run) → on_run o ⊥ (λ run. AdmissibleOrder kind left run w) → on_run o (Unit {0}) (λ run. Holds kind update_place run w) → on_run o ⊥ (λ run. LiteralOrder kind left run w)
-        go none m h = absurd m
-        go (some run) m h = record { asked = m.asked; once = m.once; leaves = (same_rule w inv run h m.asked m.once left).1 m.leaves }
+        go None m h = absurd m
+        go (Some run) m h = record { asked = m.asked; once = m.once; leaves = (same_rule w inv run h m.asked m.once left).1 m.leaves }
     to_words (replies image reply_kind bytes) may = may
     to_words cuts may = may
 

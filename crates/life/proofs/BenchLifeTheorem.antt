@@ -2,7 +2,7 @@
 use Prim.Native.Nat.{ℕ, min}
 use mathlib.Core.Path.{◌≡◌, refl, sym, ap, ◌∙◌}
 use mathlib.Core.Bool.{false}
-use mathlib.Core.Option.{some}
+use Rattle.std.specs.Prelude.{Some}
 use mathlib.Core.List.{List, ◌∷◌, append-nil}
 use native.Mathlib.Omega.{arith}
 use lib.ListN.{length, drop, take, length-take}
@@ -56,7 +56,7 @@ bench_lives kind lawful layout chip image k damage state e long bytes small = go
           before =
               ap (λ (e : List Event). (life kind (fresh chip) (starts layout image ∷ e)).run) (sym (append-nil (obeying image (take k (orders kind layout image)) chip)))
               ∙ t.reached
-              ∙ ap (λ (s : State). some (record { state = s; image = image; carried = false })) is;
+              ∙ ap (λ (s : State). Some (record { state = s; image = image; carried = false })) is;
           ends = λ h. sym is ∙ run_ended_law kind lawful layout.update_place layout image o.numbers o.alone bytes k h (fresh chip) long refl;
         }
     go (StartRefused number place) q = absurd (refused number place (sym (ap (on_start BenchRefused asks) q) ∙ by_start kind BenchRefused asks layout image ∙ e))

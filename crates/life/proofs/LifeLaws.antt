@@ -3,7 +3,7 @@ use Prim.Native.Nat.{ℕ, ◌+◌, ◌-◌, ◌*◌, ◌/◌, ◌%◌, ◌<◌, 
 use mathlib.Core.Path.{◌≡◌, refl, sym, ap, subst, ◌∙◌}
 use mathlib.Core.Logic.{⊎_elim}
 use mathlib.Core.Bool.{Bool, true, false, ◌&&◌, ◌||◌}
-use mathlib.Core.Option.{Option, some, none}
+use Rattle.std.specs.Prelude.{Option, Some, None}
 use mathlib.Core.List.{List, [], ◌∷◌}
 use native.Mathlib.Omega.{arith}
 use borrow.Author.Tests.{ltb-true, ltb-false, eqb-true}
@@ -56,8 +56,8 @@ Stage phase run w =
     (Erased w)
     (Erased w)
     (Erased w × Seen run w (page * run.state.index))
-    ((run.carried ≡ false → Erased w × Seen run w run.state.layout.update_length) × (run.carried ≡ true → w.image ≡ some run.image))
-    (w.image ≡ some run.image)
+    ((run.carried ≡ false → Erased w × Seen run w run.state.layout.update_length) × (run.carried ≡ true → w.image ≡ Some run.image))
+    (w.image ≡ Some run.image)
     (Unit {0})
 
 module _ (kind : Kind) (update_place : ℕ) where
@@ -68,7 +68,7 @@ module _ (kind : Kind) (update_place : ℕ) where
     pub place : run.state.layout.update_place ≡ update_place
     pub alone : LoadsAlone kind run.image
     pub stage : Stage run.state.phase run w
-    pub done : run.state.phase ≡ 7 → run.state.outcome ≡ 0 → (is_on kind w ≡ true) × (w.image ≡ some run.image)
+    pub done : run.state.phase ≡ 7 → run.state.outcome ≡ 0 → (is_on kind w ≡ true) × (w.image ≡ Some run.image)
 
   -- THE INVARIANT. The chip is well-formed and its golden area the first one; if it is ON, the ordered image stands at U; while the last run has found and not ordered, the switch word is erased.
   pub record Invariant (first_golden : List ℕ) (w : World) : Type 0 where
@@ -131,9 +131,9 @@ agrees_read : (place : ℕ) (bytes chip : List ℕ) → place + length bytes ≤
 unfolding agrees
 agrees_read place bytes chip h e = go (differs place (span chip place (length bytes)) bytes) refl e
   where
-    go : (d : Option ℕ) → differs place (span chip place (length bytes)) bytes ≡ d → elim d [ none ↦ true | some address ↦ false ] ≡ true → span chip place (length bytes) ≡ bytes
-    go none q r = none_same place (span chip place (length bytes)) bytes (span_length chip place (length bytes) h) q
-    go (some address) q r = absurd (false_true r)
+    go : (d : Option ℕ) → differs place (span chip place (length bytes)) bytes ≡ d → elim d [ None ↦ true | Some address ↦ false ] ≡ true → span chip place (length bytes) ≡ bytes
+    go None q r = none_same place (span chip place (length bytes)) bytes (span_length chip place (length bytes) h) q
+    go (Some address) q r = absurd (false_true r)
 
 -- No stop has number 0.
 stop_number : (phase number : ℕ) → StopsIn phase number → number ≡ 0 → ⊥
@@ -147,7 +147,7 @@ module _ (kind : Kind) (lawful : Lawful kind) (update_place : ℕ) (first_golden
   carried_out : (order : Order) (phase : ℕ) (left : List ℕ) (run : Run) (w : World) → order_of_run kind run ≡ order → run.state.phase ≡ phase →
       carry_out (order_of_run kind run) left run w ≡ record {
         chip = leaves order w.chip left;
-        run = some (carried_run run);
+        run = Some (carried_run run);
         looks = look_seen (eqb phase 1 && agrees order w.chip) w.looks;
         ordered = eqb phase 5 || w.ordered;
         image = ordered_image (eqb phase 5) run.image w.image;
@@ -185,7 +185,7 @@ module _ (kind : Kind) (lawful : Lawful kind) (update_place : ℕ) (first_golden
 
     -- the world with the order carried out, and these bytes, looks, flag and ordered image
     abbrev world_after : List ℕ → ℕ → Bool → Option (List ℕ) → World
-    world_after chip looks ordered image = record { chip = chip; run = some (carried_run run); looks = looks; ordered = ordered; image = image }
+    world_after chip looks ordered image = record { chip = chip; run = Some (carried_run run); looks = looks; ordered = ordered; image = image }
 
     -- The run goes on holding, in the same phase.
     still_holds : (after : World) (phase : ℕ) → run.state.phase ≡ phase → length after.chip ≡ length w.chip → Stage phase (carried_run run) after → Holds kind update_place (carried_run run) after
@@ -269,7 +269,7 @@ module _ (kind : Kind) (lawful : Lawful kind) (update_place : ℕ) (first_golden
 
     -- PHASE 5: a program of the switch word. The run's image stands at U, and is now the ordered one.
     switches_on : run.state.phase ≡ 5 → run.carried ≡ false → MayLeave w.chip switch_at (after_program w.chip switch_at kind.on) left →
-        Invariant kind update_place first_golden (world_after (overwrite w.chip switch_at left) w.looks true (some run.image))
+        Invariant kind update_place first_golden (world_after (overwrite w.chip switch_at left) w.looks true (Some run.image))
     unfolding on_run Stage by_phase
     switches_on p once may = record {
       formed = program_well_formed kind update_place w.chip inv.formed lawful.four left may;
@@ -282,7 +282,7 @@ module _ (kind : Kind) (lawful : Lawful kind) (update_place : ℕ) (first_golden
         contained = stands_stay w.chip (overwrite w.chip switch_at left) update_place run.image stays (λ i a. outside i (let b = bounds in omega arith)) contained;
       };
       found = λ f o. absurd (false_true (sym o));
-      run = still_holds (world_after (overwrite w.chip switch_at left) w.looks true (some run.image)) 5 p stays (λ q. absurd (false_true (sym q)), λ q. refl);
+      run = still_holds (world_after (overwrite w.chip switch_at left) w.looks true (Some run.image)) 5 p stays (λ q. absurd (false_true (sym q)), λ q. refl);
     }
       where
         known : Erased w × Seen run w run.state.layout.update_length
@@ -393,7 +393,7 @@ module _ (kind : Kind) (lawful : Lawful kind) (update_place : ℕ) (first_golden
     run_at state = record { state = state; image = run.image; carried = false }
 
     abbrev world_at : State → World
-    world_at state = record { chip = w.chip; run = some (run_at state); looks = w.looks; ordered = w.ordered; image = w.image }
+    world_at state = record { chip = w.chip; run = Some (run_at state); looks = w.looks; ordered = w.ordered; image = w.image }
 
     goes_on : (state : State) → Holds kind update_place (run_at state) (world_at state) → Invariant kind update_place first_golden (world_at state)
     unfolding on_run
@@ -504,7 +504,7 @@ module _ (kind : Kind) (lawful : Lawful kind) (update_place : ℕ) (first_golden
           let e : switch_word w.chip ≡ kind.on = rw four at (was_read switch_at kind.on (order_of_law 6 p)) in
           ap kind.is_on e ∙ lawful.on_on
 
-      ended_done : s.phase + 1 ≡ 7 → (is_on kind w ≡ true) × (w.image ≡ some run.image)
+      ended_done : s.phase + 1 ≡ 7 → (is_on kind w ≡ true) × (w.image ≡ Some run.image)
       unfolding Stage by_phase
       ended_done q = let p : s.phase ≡ 6 = omega arith in (read_on p, stage_of 6 p)
 
@@ -517,7 +517,7 @@ module _ (kind : Kind) (lawful : Lawful kind) (update_place : ℕ) (first_golden
           (λ h. at next_phase (after_phase s h) refl (phase_stage h) ended_done)
           (last_or_not s)
         where
-          at : (t : State) → after s ≡ t → t.layout ≡ s.layout → Stage t.phase (run_at t) (world_at t) → (t.phase ≡ 7 → (is_on kind w ≡ true) × (w.image ≡ some run.image)) → Invariant kind update_place first_golden (world_at (after s))
+          at : (t : State) → after s ≡ t → t.layout ≡ s.layout → Stage t.phase (run_at t) (world_at t) → (t.phase ≡ 7 → (is_on kind w ≡ true) × (w.image ≡ Some run.image)) → Invariant kind update_place first_golden (world_at (after s))
           at t e l stage done =
               subst (λ (x : State). Invariant kind update_place first_golden (world_at x)) (sym e)
               (goes_on t
@@ -571,14 +571,14 @@ module _ (kind : Kind) (lawful : Lawful kind) (update_place : ℕ) (first_golden
   keeps w inv (carries left) may = go w.run may inv.run
     where
       go : (o : Option Run) → on_run o ⊥ (λ run. AdmissibleOrder kind left run w) → on_run o (Unit {0}) (λ run. Holds kind update_place run w) → Invariant kind update_place first_golden (on_run o w (λ run. carry_out (order_of_run kind run) left run w))
-      go none m h = absurd m
-      go (some run) m h = carries_on w inv run h m.asked left m
+      go None m h = absurd m
+      go (Some run) m h = carries_on w inv run h m.asked left m
   keeps w inv (replies image reply_kind bytes) may = go w.run may inv.run
     where
       go : (o : Option Run) → on_run o ⊥ (λ run. AdmissibleReply (reply_answer kind run.state image reply_kind bytes) kind image bytes run w) → on_run o (Unit {0}) (λ run. Holds kind update_place run w) →
           Invariant kind update_place first_golden (on_run o w (λ run. after_reply (reply_answer kind run.state image reply_kind bytes) run w))
-      go none m h = absurd m
-      go (some run) m h = replied w inv run h image reply_kind bytes (reply_answer kind run.state image reply_kind bytes) refl m
+      go None m h = absurd m
+      go (Some run) m h = replied w inv run h image reply_kind bytes (reply_answer kind run.state image reply_kind bytes) refl m
   keeps w inv cuts may = record {
     formed = inv.formed;
     golden = inv.golden;

@@ -2,7 +2,7 @@
 use Prim.Native.Nat.{ℕ, ◌+◌, ◌≤◌}
 use mathlib.Core.Path.{◌≡◌, refl, sym, ap, subst, ◌∙◌}
 use mathlib.Core.Bool.{Bool, true, false}
-use mathlib.Core.Option.{Option, some}
+use Rattle.std.specs.Prelude.{Option, Some}
 use mathlib.Core.List.{List}
 use lib.ListN.{length}
 use Rattle.life.specs.Types.{Loaded, Layout, State, Started}
@@ -24,7 +24,7 @@ pub record Reads (kind : Kind) (chip : List ℕ) (jumped : Bool) : Type 0 where
   pub writes : ℕ
   pub reading : kind.reads chip ≡ Loaded sync end writes jumped
 
-some_same : {a b : List ℕ} → ◌≡◌ {A = Option (List ℕ)} (some a) (some b) → a ≡ b
+some_same : {a b : List ℕ} → ◌≡◌ {A = Option (List ℕ)} (Some a) (Some b) → a ≡ b
 some_same e = cc
 
 -- Not both.
@@ -84,7 +84,7 @@ module _ (kind : Kind) (lawful : Lawful kind) (update_place : ℕ) (first : Worl
       record { valid = r.valid; state = r.reached.state; loaded = subst (λ (i : List ℕ). loads after.chip i update_place true) same s.loaded }
 
   -- A run that has ended with outcome 0: what is ON loads what was ordered, and that is its image.
-  done_loads : (w : World) → Invariant kind update_place first_golden w → (run : Run) → w.run ≡ some run → run.state.phase ≡ 7 → run.state.outcome ≡ 0 → DoneLoads kind loads update_place run w
+  done_loads : (w : World) → Invariant kind update_place first_golden w → (run : Run) → w.run ≡ Some run → run.state.phase ≡ 7 → run.state.outcome ≡ 0 → DoneLoads kind loads update_place run w
   unfolding on_run
   done_loads w inv run opened_run at_end zero =
       let h : Holds kind update_place run w = subst (λ (r : Option Run). on_run r (Unit {0}) (λ run. Holds kind update_place run w)) opened_run inv.run in
@@ -110,4 +110,4 @@ module _ (kind : Kind) (lawful : Lawful kind) (update_place : ℕ) (first : Worl
 -- DEMAND 3 of any kind that keeps its laws.
 pub demand3 : (kind : Kind) → Lawful kind → Demand3 kind
 demand3 kind lawful update_place w begins =
-    claims kind lawful update_place w begins (Loads kind) (golden_area update_place w.chip) (loads_reads kind) (λ chip formed l. l) (λ chip image formed some contained l. l)
+    claims kind lawful update_place w begins (Loads kind) (golden_area update_place w.chip) (loads_reads kind) (λ chip formed l. l) (λ chip image formed long contained l. l)

@@ -3,7 +3,7 @@ use Prim.Native.Nat.{ℕ, zero, suc, ◌+◌, ◌-◌, ◌<◌}
 use mathlib.Core.Path.{◌≡◌, refl, sym, ap, subst, ◌∙◌}
 use mathlib.Core.Logic.{inl, inr}
 use mathlib.Core.Bool.{Bool, true, false}
-use mathlib.Core.Option.{Option, some, none}
+use Rattle.std.specs.Prelude.{Option, Some, None}
 use mathlib.Core.List.{List, [], ◌∷◌}
 use native.Mathlib.Omega.{arith}
 use borrow.Author.Tests.{eqb-true, eqb-false, eq-eqb}
@@ -25,7 +25,7 @@ use Rattle.orders.proofs.Laws.{phases, asked_for}
 use Rattle.updater.proofs.Laws.{running_says, current_order_law}
 
 -- Where bytes differ, the address is that of the first byte that does.
-pub some_differs : (place : ℕ) (bytes expected : List ℕ) (address : ℕ) → differs place bytes expected ≡ some address → FirstDiffers place bytes expected address
+pub some_differs : (place : ℕ) (bytes expected : List ℕ) (address : ℕ) → differs place bytes expected ≡ Some address → FirstDiffers place bytes expected address
 unfolding differs
 some_differs place [] expected address e = let z : ◌≡◌ {A = ℕ} 0 1 = cc in absurd (omega arith)
 some_differs place (byte ∷ bytes) [] address e = let z : ◌≡◌ {A = ℕ} 0 1 = cc in absurd (omega arith)
@@ -46,8 +46,8 @@ some_differs place (byte ∷ bytes) (m ∷ expected) address e = go (eqb byte m)
         at zero h = q
         at (suc i) h = f.before i (omega arith)
 
-    go : (b : Bool) → eqb byte m ≡ b → ◌≡◌ {A = Option ℕ} (elim b [ true ↦ differs (place + 1) bytes expected | false ↦ some place ]) (some address) →
-        (differs (place + 1) bytes expected ≡ some address → FirstDiffers (place + 1) bytes expected address) → FirstDiffers place (byte ∷ bytes) (m ∷ expected) address
+    go : (b : Bool) → eqb byte m ≡ b → ◌≡◌ {A = Option ℕ} (elim b [ true ↦ differs (place + 1) bytes expected | false ↦ Some place ]) (Some address) →
+        (differs (place + 1) bytes expected ≡ Some address → FirstDiffers (place + 1) bytes expected address) → FirstDiffers place (byte ∷ bytes) (m ∷ expected) address
     go true q h rest = later (rest h) (eqb-true byte m q)
     go false q h rest =
         let a : place ≡ address = cc in
@@ -92,13 +92,13 @@ module _ (kind : Kind) (state : State) (image : List ℕ) (reply_kind : ℕ) (by
 
       to_look : (place : ℕ) (expected : List ℕ) → current_order kind state image ≡ look place expected → fits state (length image) ≡ true → running state ≡ true → reply_kind ≡ read → length bytes ≡ length expected →
           (d : Option ℕ) → differs place bytes expected ≡ d → compared d state ≡ Next next → Moved kind state image reply_kind bytes next
-      to_look place expected w f r p l none h q = record {
+      to_look place expected w f r p l None h q = record {
         fitted = f;
         ran = r;
         replied = subst (λ (x : Order). Replies x reply_kind bytes) (sym w) (p, none_same place bytes expected l h);
         comes = next_same q;
       }
-      to_look place expected w f r p l (some address) h q = let z : ◌≡◌ {A = ℕ} 0 1 = cc in absurd (omega arith)
+      to_look place expected w f r p l (Some address) h q = let z : ◌≡◌ {A = ℕ} 0 1 = cc in absurd (omega arith)
 
       go : (o : Order) → current_order kind state image ≡ o → fits state (length image) ≡ true → running state ≡ true → replied_to o state reply_kind bytes ≡ Next next → Moved kind state image reply_kind bytes next
       go (erase place count) w f r q = to_done (erase place count) w (λ p. p) f r q
@@ -137,8 +137,8 @@ module _ (kind : Kind) (state : State) (image : List ℕ) (reply_kind : ℕ) (by
 
       to_look : (place : ℕ) (expected : List ℕ) → current_order kind state image ≡ look place expected → fits state (length image) ≡ true → running state ≡ true → reply_kind ≡ read → length bytes ≡ length expected →
           (d : Option ℕ) → differs place bytes expected ≡ d → compared d state ≡ Stopped number address next → Halted kind state image reply_kind bytes number address next
-      to_look place expected w f r p l none h q = let z : ◌≡◌ {A = ℕ} 0 1 = cc in absurd (omega arith)
-      to_look place expected w f r p l (some found) h q =
+      to_look place expected w f r p l None h q = let z : ◌≡◌ {A = ℕ} 0 1 = cc in absurd (omega arith)
+      to_look place expected w f r p l (Some found) h q =
           let s = stopped_same q in
           record {
             fitted = f;
@@ -148,7 +148,7 @@ module _ (kind : Kind) (state : State) (image : List ℕ) (reply_kind : ℕ) (by
             looked = w;
             said = p;
             long = l;
-            differ = some_differs place bytes expected address (h ∙ ap (λ (x : ℕ). some x) s.1);
+            differ = some_differs place bytes expected address (h ∙ ap (λ (x : ℕ). Some x) s.1);
             stop = subst (StopsIn state.phase) s.0 (look_phase place expected f r w);
             comes = sym s.2 ∙ ap (ended state) s.0;
           }
@@ -168,8 +168,8 @@ module _ (kind : Kind) (state : State) (image : List ℕ) (reply_kind : ℕ) (by
   halts place expected f r w l other = go (differs place bytes expected) refl
     where
       go : (d : Option ℕ) → differs place bytes expected ≡ d → (number : ℕ) × (address : ℕ) × StopsIn state.phase number × (reply_answer kind state image read bytes ≡ Stopped number address (ended state number))
-      go none h = absurd (other (none_same place bytes expected l h))
-      go (some address) h = (stop_of state.phase, address, look_phase place expected f r w, rw (f, r, w, for_asked read (length expected) read (length bytes) refl l, h) refl)
+      go None h = absurd (other (none_same place bytes expected l h))
+      go (Some address) h = (stop_of state.phase, address, look_phase place expected f r w, rw (f, r, w, for_asked read (length expected) read (length bytes) refl l, h) refl)
 
   -- and the reply that the order asks for moves the run on.
   replied_moves : (o : Order) → Replies o reply_kind bytes → replied_to o state reply_kind bytes ≡ Next (after state)

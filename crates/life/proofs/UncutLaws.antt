@@ -3,7 +3,7 @@ use Prim.Native.Nat.{ℕ, zero, suc, ◌+◌, ◌<◌, ◌≤◌}
 use mathlib.Core.Path.{◌≡◌, refl, sym, ap, ap₂, subst, ◌∙◌}
 use mathlib.Core.Logic.{⊎_elim}
 use mathlib.Core.Bool.{Bool, true, false}
-use mathlib.Core.Option.{Option, some}
+use Rattle.std.specs.Prelude.{Option, Some}
 use mathlib.Core.List.{List, [], ◌∷◌, ◌++◌, append-nil}
 use native.Mathlib.Omega.{arith}
 use borrow.Author.Tests.{ltb-false, eqb-false}
@@ -45,9 +45,9 @@ event_first kind update_place goal w event events may l = record { valid = (may,
 
 -- A run that has ended well: the switch is ON, and the image is the ordered one.
 pub record Finished (kind : Kind) (layout : Layout) (image : List ℕ) (w : World) : Type 0 where
-  pub state : w.run ≡ some (record { state = ended (first layout (length image)) 0; image = image; carried = false })
+  pub state : w.run ≡ Some (record { state = ended (first layout (length image)) 0; image = image; carried = false })
   pub on : is_on kind w ≡ true
-  pub ordered : w.image ≡ some image
+  pub ordered : w.image ≡ Some image
 
 -- What a look reads is true.
 reads_true : (order : Order) (chip : List ℕ) → TrueRead order chip (bytes_read order chip)
@@ -57,11 +57,11 @@ reads_true (program place bytes) chip = tt
 reads_true (look place bytes) chip = refl
 
 -- From phase 5's order on the run's image is the ordered one.
-orders_image : (phase : ℕ) (image : List ℕ) (last : Option (List ℕ)) → (5 < phase → last ≡ some image) → 5 ≤ phase → ordered_image (eqb phase 5) image last ≡ some image
+orders_image : (phase : ℕ) (image : List ℕ) (last : Option (List ℕ)) → (5 < phase → last ≡ Some image) → 5 ≤ phase → ordered_image (eqb phase 5) image last ≡ Some image
 unfolding ordered_image
 orders_image phase image last known h = go (eqb phase 5) refl
   where
-    go : (b : Bool) → eqb phase 5 ≡ b → ordered_image b image last ≡ some image
+    go : (b : Bool) → eqb phase 5 ≡ b → ordered_image b image last ≡ Some image
     go true e = refl
     go false e = known (let n = eqb-false phase 5 e in omega arith)
 
@@ -74,7 +74,7 @@ module _ (kind : Kind) (lawful : Lawful kind) (update_place : ℕ) (layout : Lay
   order phase i = current_order kind (at phase i) image
 
   abbrev world : List ℕ → State → Bool → ℕ → Bool → Option (List ℕ) → World
-  world chip state carried looks ordered last = record { chip = chip; run = some (record { state = state; image = image; carried = carried }); looks = looks; ordered = ordered; image = last }
+  world chip state carried looks ordered last = record { chip = chip; run = Some (record { state = state; image = image; carried = carried }); looks = looks; ordered = ordered; image = last }
 
   abbrev Ends : World → List Event → Type 0
   Ends w events = Leads kind update_place (Finished kind layout image) w events
@@ -85,7 +85,7 @@ module _ (kind : Kind) (lawful : Lawful kind) (update_place : ℕ) (layout : Lay
     stop : 7 ≤ phase → (phase ≡ 7) × (i ≡ 0)
     long : length chip ≡ layout.chip_length
     progress : Progress kind layout image phase i chip
-    known : 5 < phase → last ≡ some image
+    known : 5 < phase → last ≡ Some image
 
   -- one order further
   record Further (phase i : ℕ) (chip : List ℕ) (last : Option (List ℕ)) : Type 0 where
@@ -256,14 +256,14 @@ module _ (kind : Kind) (lawful : Lawful kind) (update_place : ℕ) (layout : Lay
 
   -- Its state then is the one after as many orders.
   abbrev AtState : ℕ → World → Type 0
-  AtState k w = w.run ≡ some (record { state = state_after (length (take k (orders kind layout image))) (first layout (length image)); image = image; carried = false })
+  AtState k w = w.run ≡ Some (record { state = state_after (length (take k (orders kind layout image))) (first layout (length image)); image = image; carried = false })
 
   pub run_state : (k : ℕ) (w : World) → layout.chip_length ≡ length w.chip → layout.update_place ≡ update_place →
       Leads kind update_place (AtState k) w (starts layout image ∷ (obeying image (take k (orders kind layout image)) w.chip ++ []))
   unfolding Valid life
   run_state k w l u =
       run_leads k w l u (AtState k) []
-      (λ phase i looks ordered last c. record { valid = tt; reached = ap (λ (s : State). some (record { state = s; image = image; carried = false })) c.state })
+      (λ phase i looks ordered last c. record { valid = tt; reached = ap (λ (s : State). Some (record { state = s; image = image; carried = false })) c.state })
 
   -- THE UNCUT RUN has finished.
   all_orders : (k : ℕ) → total layout (length image) ≤ k → take k (orders kind layout image) ≡ orders kind layout image

@@ -1,6 +1,5 @@
 -- "In the switch segment each bit ends old or as ordered", word for word. The premises of specs/Life.antt say of a program: old, or as an obeying chip would hold it, which differs where a program has a 1 over an old 0. Here: for every order that a run can give, the two rules permit the same bytes, so that nothing is left out of demand 3.
-use Rattle.std.specs.Prelude.{ℕ, ◌≡◌, true, false, List, [], ◌∷◌}
-use Rattle.std.proofs.Math.Option.{some}
+use Rattle.std.specs.Prelude.{ℕ, ◌≡◌, true, false, List, [], ◌∷◌, Some}
 use Rattle.flash.specs.Flash.{erased}
 use Rattle.chip.specs.Cut.{MayLeave}
 use Rattle.kind.specs.Kind.{Kind}
@@ -35,7 +34,7 @@ LiterallyValid kind update_place w (event ∷ events) = LiterallyAdmissible kind
 pub record AsOrdered (kind : Kind) : Type 0 where
   -- After any list that keeps the premises, the order that an open run asks for may leave the same bytes by both rules;
   pub permits : (update_place : ℕ) (w : World) → LifeBegins kind update_place w → (events : List Event) → Valid kind update_place w events →
-      (run : Run) → (life kind w events).run ≡ some run → running run.state ≡ true → run.carried ≡ false → (left : List ℕ) →
+      (run : Run) → (life kind w events).run ≡ Some run → running run.state ≡ true → run.carried ≡ false → (left : List ℕ) →
       (LiteralSpan (order_of_run kind run) (life kind w events).chip left → AdmissibleSpan (order_of_run kind run) (life kind w events).chip left)
       × (AdmissibleSpan (order_of_run kind run) (life kind w events).chip left → LiteralSpan (order_of_run kind run) (life kind w events).chip left)
   -- so a list keeps the premises by the words exactly if it keeps them by `Valid`.

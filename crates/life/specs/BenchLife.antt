@@ -1,8 +1,7 @@
 -- The bench is a life: chip and state are those that a list of events leads to, so that the claim about lists is one about it too.
-use Rattle.std.specs.Prelude.{ℕ, ◌≤◌, ◌≡◌, false, List, [], ◌∷◌, ◌++◌, length, take, drop}
-use Rattle.std.proofs.Math.Option.{some}
+use Rattle.std.specs.Prelude.{ℕ, ◌≤◌, ◌≡◌, false, List, [], ◌∷◌, ◌++◌, length, take, drop, Some, Ok}
 use Rattle.kind.specs.Kind.{Kind}
-use Rattle.life.specs.Types.{Layout, State, Reached}
+use Rattle.life.specs.Types.{Layout, State}
 use Rattle.orders.specs.Table.{total}
 use Rattle.orders.specs.Orders.{Order, orders}
 use Rattle.updater.specs.State.{first, ended}
@@ -30,13 +29,13 @@ obeyed_run kind layout chip image k = starts layout image ∷ obeying image (tak
 pub record BenchLife (kind : Kind) (layout : Layout) (chip image : List ℕ) (k : ℕ) (damage : List ℕ) (state : State) : Type 0 where
   -- Its events keep the premises, and leave the chip that the bench leaves.
   pub valid : Valid kind layout.update_place (fresh chip) (bench_run kind layout chip image k damage)
-  pub leaves : (life kind (fresh chip) (bench_run kind layout chip image k damage)).chip ≡ bench_output (Reached state) kind layout chip image k damage
+  pub leaves : (life kind (fresh chip) (bench_run kind layout chip image k damage)).chip ≡ bench_output (Ok state) kind layout chip image k damage
   -- It answers with the run's state before order k + 1,
-  pub before : (life kind (fresh chip) (obeyed_run kind layout chip image k)).run ≡ some (record { state = state; image = image; carried = false })
+  pub before : (life kind (fresh chip) (obeyed_run kind layout chip image k)).run ≡ Some (record { state = state; image = image; carried = false })
   -- or with phase 7 and outcome 0 at the end.
   pub ends : total layout (length image) ≤ k → state ≡ ended (first layout (length image)) 0
 
 abbrev pub BenchLives : Kind → Type 0
 BenchLives kind =
-    (layout : Layout) (chip image : List ℕ) (k : ℕ) (damage : List ℕ) (state : State) → bench_answer kind layout chip image k damage ≡ Reached state → layout.chip_length ≡ length chip → Bytes image → Bytes damage →
+    (layout : Layout) (chip image : List ℕ) (k : ℕ) (damage : List ℕ) (state : State) → bench_answer kind layout chip image k damage ≡ Ok state → layout.chip_length ≡ length chip → Bytes image → Bytes damage →
     BenchLife kind layout chip image k damage state

@@ -1,12 +1,12 @@
 -- DEMAND 3: the life of a chip (document 01's term: "A chip's life"); the mission's demand 3 and its premises. One claim about any whole list of events.
-use Rattle.std.specs.Prelude.{ℕ, ◌+◌, ◌≤◌, ◌≡◌, Bool, true, false, ◌&&◌, ◌||◌, List, [], ◌∷◌, eqb, length}
-use Rattle.std.proofs.Math.Option.{Option, some, none}
+use Rattle.std.specs.Prelude.{ℕ, ◌+◌, ◌≤◌, ◌≡◌, Bool, true, false, ◌&&◌, ◌||◌, List, [], ◌∷◌, eqb, length, Option, Some, None, Result, Ok, Err}
 use Rattle.kind.specs.Layout.{golden_at}
 use Rattle.flash.specs.Flash.{span}
 use Rattle.chip.specs.Cut.{MayLeave}
 use Rattle.kind.specs.Kind.{Kind}
 use Rattle.chip.specs.Chip.{switch_word, golden_area, LoadsAlone, Loads, WellFormed, ContainsAt}
-use Rattle.life.specs.Types.{Layout, State, ReplyAnswer, Next, Stopped, ReplyRefused, StartAnswer, Started, StartRefused}
+use Rattle.base.specs.Types.{Refusal}
+use Rattle.life.specs.Types.{Layout, State, Reply, Next, Stopped, RefusedReply}
 use Rattle.orders.specs.Orders.{Order, erase, program, look, orders}
 use Rattle.updater.specs.State.{running, first, ended, current_order}
 use Rattle.comparison.specs.Comparison.{differs}
@@ -31,7 +31,7 @@ pub record World : Type 0 where
 
 -- The list starts with no run open.
 abbrev pub fresh : List ℕ → World
-fresh chip = record { chip = chip; run = none; looks = 0; ordered = false; image = none }
+fresh chip = record { chip = chip; run = None; looks = 0; ordered = false; image = None }
 
 -- A run has found the switch segment erased once its 16 looks of phase 1 have all read FF. (Each is carried out once.)
 abbrev pub found : World → Bool
@@ -45,21 +45,21 @@ pub data Event : Type 0 where
   cuts : Event
 
 -- START. Accepted, it opens a run, from then on the last one; a run still open counts as cut. Refused, it changes nothing.
-unfoldable pub after_start : StartAnswer → List ℕ → World → World
-after_start (Started state) image w = record {
+unfoldable pub after_start : Result State Refusal → List ℕ → World → World
+after_start (Ok state) image w = record {
   chip = w.chip;
-  run = some (record { state = state; image = image; carried = false });
+  run = Some (record { state = state; image = image; carried = false });
   looks = 0;
   ordered = false;
   image = w.image;
 }
-after_start (StartRefused number place) image w = w
+after_start (Err r) image w = w
 
 -- whether a look finds what is expected; no other order does
 unfoldable pub agrees : Order → List ℕ → Bool
 agrees (erase place count) chip = false
 agrees (program place bytes) chip = false
-agrees (look place bytes) chip = elim (differs place (span chip place (length bytes)) bytes) [ none ↦ true | some address ↦ false ]
+agrees (look place bytes) chip = elim (differs place (span chip place (length bytes)) bytes) [ None ↦ true | Some address ↦ false ]
 
 -- ORDER. It has ordered the switch on once its order of phase 5 has begun, cut or not: that makes the run's image the ordered one.
 unfoldable pub look_seen : Bool → ℕ → ℕ
@@ -67,27 +67,27 @@ look_seen true looks = looks + 1
 look_seen false looks = looks
 
 unfoldable pub ordered_image : Bool → List ℕ → Option (List ℕ) → Option (List ℕ)
-ordered_image true image last = some image
+ordered_image true image last = Some image
 ordered_image false image last = last
 
 unfoldable pub carry_out : Order → List ℕ → Run → World → World
 carry_out order left run w = record {
   chip = leaves order w.chip left;
-  run = some (record { state = run.state; image = run.image; carried = true });
+  run = Some (record { state = run.state; image = run.image; carried = true });
   looks = look_seen (eqb run.state.phase 1 && agrees order w.chip) w.looks;
   ordered = eqb run.state.phase 5 || w.ordered;
   image = ordered_image (eqb run.state.phase 5) run.image w.image;
 }
 
 -- REPLY. Refused, chip and state stay; otherwise the state is the one handed back.
-unfoldable pub after_reply : ReplyAnswer → Run → World → World
-after_reply (ReplyRefused number place state) run w = w
-after_reply (Next state) run w = record { chip = w.chip; run = some (record { state = state; image = run.image; carried = false }); looks = w.looks; ordered = w.ordered; image = w.image }
-after_reply (Stopped number place state) run w = record { chip = w.chip; run = some (record { state = state; image = run.image; carried = false }); looks = w.looks; ordered = w.ordered; image = w.image }
+unfoldable pub after_reply : Result Reply RefusedReply → Run → World → World
+after_reply (Err r) run w = w
+after_reply (Ok (Next state)) run w = record { chip = w.chip; run = Some (record { state = state; image = run.image; carried = false }); looks = w.looks; ordered = w.ordered; image = w.image }
+after_reply (Ok (Stopped number place state)) run w = record { chip = w.chip; run = Some (record { state = state; image = run.image; carried = false }); looks = w.looks; ordered = w.ordered; image = w.image }
 
 -- CUT. The state is lost and the run closed; chip, flags and ordered image stay.
 abbrev pub after_cut : World → World
-after_cut w = record { chip = w.chip; run = none; looks = w.looks; ordered = w.ordered; image = w.image }
+after_cut w = record { chip = w.chip; run = None; looks = w.looks; ordered = w.ordered; image = w.image }
 
 -- the order that a run asks for
 abbrev pub order_of_run : Kind → Run → Order
@@ -95,8 +95,8 @@ order_of_run kind run = current_order kind run.state run.image
 
 -- what an event does with the run that is open
 unfoldable pub on_run {ℓ} : {A : Type ℓ} → Option Run → A → (Run → A) → A
-on_run none closed opened = closed
-on_run (some run) closed opened = opened run
+on_run None closed opened = closed
+on_run (Some run) closed opened = opened run
 
 -- ONE EVENT. An order or a reply without an open run changes nothing, and no list has one (`Admissible`).
 unfoldable pub next : Kind → World → Event → World
@@ -106,9 +106,9 @@ next kind w (replies image reply_kind bytes) = on_run w.run w (λ run. after_rep
 next kind w cuts = after_cut w
 
 -- THE PREMISES. Every run uses the chip's own layout: its length and its U. (A is nowhere on a chip, and nothing is asked of it.) A refused start may carry anything.
-unfoldable pub AdmissibleStart : StartAnswer → ℕ → Layout → World → Type 0
-AdmissibleStart (Started state) update_place layout w = (layout.chip_length ≡ length w.chip) × (layout.update_place ≡ update_place)
-AdmissibleStart (StartRefused number place) update_place layout w = Unit {0}
+unfoldable pub AdmissibleStart : Result State Refusal → ℕ → Layout → World → Type 0
+AdmissibleStart (Ok state) update_place layout w = (layout.chip_length ≡ length w.chip) × (layout.update_place ≡ update_place)
+AdmissibleStart (Err r) update_place layout w = Unit {0}
 
 -- What may stand in an order's span afterwards: in segment 0 each bit old or as ordered, in the update area any bytes. Nothing is asked of a look. ("As ordered" is here as an obeying chip would hold it; of every order that a run can give this is the rule word for word: the theorem `AsOrdered`.)
 unfoldable pub AdmissibleSpan : Order → List ℕ → List ℕ → Type 0
@@ -135,10 +135,10 @@ pub record TruthfulReply (kind : Kind) (image bytes : List ℕ) (run : Run) (w :
   pub reads : TrueRead (order_of_run kind run) w.chip bytes
 
 -- A refused reply (stops 10 to 12 are not) may carry anything and may come before its order.
-unfoldable pub AdmissibleReply : ReplyAnswer → Kind → List ℕ → List ℕ → Run → World → Type 0
-AdmissibleReply (ReplyRefused number place state) kind image bytes run w = Unit {0}
-AdmissibleReply (Next state) kind image bytes run w = TruthfulReply kind image bytes run w
-AdmissibleReply (Stopped number place state) kind image bytes run w = TruthfulReply kind image bytes run w
+unfoldable pub AdmissibleReply : Result Reply RefusedReply → Kind → List ℕ → List ℕ → Run → World → Type 0
+AdmissibleReply (Err r) kind image bytes run w = Unit {0}
+AdmissibleReply (Ok (Next state)) kind image bytes run w = TruthfulReply kind image bytes run w
+AdmissibleReply (Ok (Stopped number place state)) kind image bytes run w = TruthfulReply kind image bytes run w
 
 unfoldable pub Admissible : Kind → ℕ → World → Event → Type 0
 Admissible kind update_place w (starts layout image) = AdmissibleStart (start_answer kind layout image) update_place layout w
@@ -184,19 +184,19 @@ Loading = List ℕ → List ℕ → ℕ → Bool → Type 0
 -- An uncut run keeps the premises, ends in phase 7 with outcome 0, and makes its own image load, after a jump.
 pub record Updates (kind : Kind) (loads : Loading) (update_place : ℕ) (layout : Layout) (image : List ℕ) (w : World) : Type 0 where
   pub valid : Valid kind update_place w (uncut kind layout image w.chip)
-  pub state : (life kind w (uncut kind layout image w.chip)).run ≡ some (record { state = ended (first layout (length image)) 0; image = image; carried = false })
+  pub state : (life kind w (uncut kind layout image w.chip)).run ≡ Some (record { state = ended (first layout (length image)) 0; image = image; carried = false })
   pub loaded : loads (life kind w (uncut kind layout image w.chip)).chip image update_place true
 
 -- There is an ordered image, and it loads, after a jump.
 pub record OrderedLoads (loads : Loading) (update_place : ℕ) (w : World) : Type 0 where
   pub image : List ℕ
-  pub ordered : w.image ≡ some image
+  pub ordered : w.image ≡ Some image
   pub loaded : loads w.chip image update_place true
 
 -- What a run tells that has ended with outcome 0: the switch is ON, its image is the ordered one, and that loads, after a jump.
 pub record DoneLoads (kind : Kind) (loads : Loading) (update_place : ℕ) (run : Run) (w : World) : Type 0 where
   pub on : is_on kind w ≡ true
-  pub ordered : w.image ≡ some run.image
+  pub ordered : w.image ≡ Some run.image
   pub loaded : loads w.chip run.image update_place true
 
 -- THE CLAIM about a world.
@@ -210,22 +210,22 @@ pub record Claim (kind : Kind) (loads : Loading) (update_place : ℕ) (golden : 
   -- No update loads while the last run has found the switch segment erased and has not ordered it on: the switch is OFF.
   pub found_off : found w ≡ true → w.ordered ≡ false → is_on kind w ≡ false
   -- One more run, uncut on a chip that obeys, makes its own image load: every image that a start with this chip's length and U accepts.
-  pub again : (layout : Layout) (image : List ℕ) (state : State) → start_answer kind layout image ≡ Started state → layout.chip_length ≡ length w.chip → layout.update_place ≡ update_place →
+  pub again : (layout : Layout) (image : List ℕ) (state : State) → start_answer kind layout image ≡ Ok state → layout.chip_length ≡ length w.chip → layout.update_place ≡ update_place →
       Bytes image → Updates kind loads update_place layout image w
   -- Done means done, on every chip that keeps the premises, also one that calls an order done and did otherwise: while a run is open in phase 7 with outcome 0, its own image loads.
-  pub done_loads : (run : Run) → w.run ≡ some run → run.state.phase ≡ 7 → run.state.outcome ≡ 0 → DoneLoads kind loads update_place run w
+  pub done_loads : (run : Run) → w.run ≡ Some run → run.state.phase ≡ 7 → run.state.outcome ≡ 0 → DoneLoads kind loads update_place run w
 
 -- the ordered image, an accepted one, and that the chip contains it at U
 pub record OrderedImageInPlace (kind : Kind) (update_place : ℕ) (w : World) : Type 0 where
   pub image : List ℕ
-  pub ordered : w.image ≡ some image
+  pub ordered : w.image ≡ Some image
   pub some_bytes : 1 ≤ length image
   pub alone : LoadsAlone kind image
   pub contained : ContainsAt w.chip update_place image
 
 -- Where a list may start: no run open, a well-formed chip, and if it is ON an ordered image at U. (A well-formed chip that is OFF, as a built one is, needs none.)
 pub record LifeBegins (kind : Kind) (update_place : ℕ) (w : World) : Type 0 where
-  pub closed : w.run ≡ none
+  pub closed : w.run ≡ None
   pub unseen : w.looks ≡ 0
   pub formed : WellFormed kind update_place w.chip
   pub image : is_on kind w ≡ true → OrderedImageInPlace kind update_place w

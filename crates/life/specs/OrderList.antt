@@ -1,6 +1,7 @@
 -- DEMAND 2 of a run: it gives exactly the orders of the list, in order, until done or stopped.
-use Rattle.std.specs.Prelude.{ℕ, ◌+◌, ◌-◌, ◌<◌, ◌≤◌, ◌≡◌, ◌⊎◌, true, false, List, [], length, get_or}
-use Rattle.base.specs.Refusal.{switch_not_erased, update_differs, switch_not_on}
+use Rattle.std.specs.Prelude.{ℕ, ◌+◌, ◌-◌, ◌<◌, ◌≤◌, ◌≡◌, ◌⊎◌, true, false, List, [], length, get_or, Ok}
+use Rattle.base.specs.Types.{SwitchNotErased, UpdateDiffers, SwitchNotOn}
+use Rattle.base.specs.Refusal.{number_of}
 use Rattle.kind.specs.Kind.{Kind}
 use Rattle.life.specs.Types.{Layout, State, Next, Stopped}
 use Rattle.orders.specs.Table.{count, count_before, total}
@@ -32,7 +33,7 @@ pub record Moved (kind : Kind) (state : State) (image : List ℕ) (reply_kind : 
 
 -- The phases that look, with the stop of each: a run can stop in no other.
 abbrev pub StopsIn : ℕ → ℕ → Type 0
-StopsIn phase number = ((phase ≡ 1) × (number ≡ switch_not_erased)) ⊎ (((phase ≡ 4) × (number ≡ update_differs)) ⊎ ((phase ≡ 6) × (number ≡ switch_not_on)))
+StopsIn phase number = ((phase ≡ 1) × (number ≡ number_of SwitchNotErased)) ⊎ (((phase ≡ 4) × (number ≡ number_of UpdateDiffers)) ⊎ ((phase ≡ 6) × (number ≡ number_of SwitchNotOn)))
 
 -- A reply that stops it: to a look, and only if a byte is another.
 pub record Halted (kind : Kind) (state : State) (image : List ℕ) (reply_kind : ℕ) (bytes : List ℕ) (number address : ℕ) (next : State) : Type 0 where
@@ -90,17 +91,17 @@ pub record Demand2 (kind : Kind) : Type 0 where
   -- Until then a run is at one of the list's orders.
   pub goes : (state : State) (lent : ℕ) → fits state lent ≡ true → running state ≡ true → position state < total state.layout state.image_length
   -- A reply that is neither refused nor a stop was the one asked for, and moves on by one;
-  pub moves : (state : State) (image : List ℕ) (reply_kind : ℕ) (bytes : List ℕ) (next : State) → reply_answer kind state image reply_kind bytes ≡ Next next →
+  pub moves : (state : State) (image : List ℕ) (reply_kind : ℕ) (bytes : List ℕ) (next : State) → reply_answer kind state image reply_kind bytes ≡ Ok (Next next) →
       Moved kind state image reply_kind bytes next × (position next ≡ position state + 1)
   -- the one asked for is neither;
   pub agrees : (state : State) (image : List ℕ) (reply_kind : ℕ) (bytes : List ℕ) → fits state (length image) ≡ true → running state ≡ true → Replies (current_order kind state image) reply_kind bytes →
-      reply_answer kind state image reply_kind bytes ≡ Next (after state)
+      reply_answer kind state image reply_kind bytes ≡ Ok (Next (after state))
   -- bytes of the length asked for in which one is not as it must be are a stop, with the number of the phase,
   pub halts : (state : State) (image : List ℕ) (bytes : List ℕ) (place : ℕ) (expected : List ℕ) → fits state (length image) ≡ true → running state ≡ true →
       current_order kind state image ≡ look place expected → length bytes ≡ length expected → (bytes ≡ expected → ⊥) →
-      (number : ℕ) × (address : ℕ) × StopsIn state.phase number × (reply_answer kind state image read bytes ≡ Stopped number address (ended state number))
+      (number : ℕ) × (address : ℕ) × StopsIn state.phase number × (reply_answer kind state image read bytes ≡ Ok (Stopped number address (ended state number)))
   -- and a stop is in one of those phases, at the first byte that is not.
-  pub stops : (state : State) (image : List ℕ) (reply_kind : ℕ) (bytes : List ℕ) (number address : ℕ) (next : State) → reply_answer kind state image reply_kind bytes ≡ Stopped number address next →
+  pub stops : (state : State) (image : List ℕ) (reply_kind : ℕ) (bytes : List ℕ) (number address : ℕ) (next : State) → reply_answer kind state image reply_kind bytes ≡ Ok (Stopped number address next) →
       Halted kind state image reply_kind bytes number address next
   -- No order leaves segment 0 and the update area; an erase is one segment at a multiple of its length, a program 1 to 256 bytes inside one page;
   pub reach : (state : State) (image : List ℕ) → fits state (length image) ≡ true → running state ≡ true →
