@@ -7,7 +7,7 @@ use Rattle.base.specs.Answer.{Numbered, in_numbers}
 use Rattle.base.specs.Question.{ask}
 use Rattle.kind.specs.Layout.{image_length_allowed, ask_layout}
 use Rattle.kind.specs.Kind.{Kind}
-use Rattle.starts.specs.Types.{Layout, State, Progress}
+use Rattle.starts.specs.Types.{Layout, State, RunProgress}
 use Rattle.orders.specs.Table.{total}
 use Rattle.updater.specs.State.{state_numbers, position, first, running, fits}
 
@@ -34,19 +34,19 @@ unfoldable pub total_answer : Layout → ℕ → Result ℕ Refusal
 total_answer layout n = ask_layout refused layout (ask (image_length_allowed layout.update_length n) (refused BadImageLength 0) (Ok (total layout n)))
 
 -- the number of an order, counted from 1, among as many in all
-abbrev pub counted : ℕ → ℕ → Progress
+abbrev pub counted : ℕ → ℕ → RunProgress
 counted order orders = record { order = order; orders = orders }
 
 -- the number of a state's order, and how many orders its run has
-abbrev pub progress_of : State → Progress
+abbrev pub progress_of : State → RunProgress
 progress_of state = counted (position state + 1) (total state.layout state.image_length)
 
 -- in numbers: the order's number, counted from 1, and how many orders
-abbrev pub progress_numbers : Result Progress Refusal → Numbered
+abbrev pub progress_numbers : Result RunProgress Refusal → Numbered
 progress_numbers = in_numbers (λ progress. progress.order ∷ progress.orders ∷ [])
 
 -- `progress`: 7 for a state that does not fit (no image is lent), 8 for a run that has ended, then the number of the current order and how many there are
-unfoldable pub progress_answer : State → Result Progress Refusal
+unfoldable pub progress_answer : State → Result RunProgress Refusal
 progress_answer state =
     ask (fits state state.image_length) (refused BadState 0)
     (ask (running state) (refused RunEnded 0) (Ok (progress_of state)))

@@ -4,4 +4,4 @@ pub use Rattle.configreader.specs.declared.Outcome.TheVariants.{Loaded, Iprog as
 pub use Rattle.kind.specs.declared.layout.Layout.{Layout}
 pub use Rattle.bootreader.specs.declared.image.Accepted.{Accepted}
 pub use Rattle.updater.specs.declared.state.State.{State}
-pub use Rattle.starts.specs.declared.Progress.{Progress}
+pub use Rattle.starts.specs.declared.RunProgress.{RunProgress}

@@ -15,7 +15,7 @@ use updater::state::State;
 
 // The number of a state's order in its run, counted from 1, and how many orders the run has.
 #[derive(Clone, Copy)]
-pub struct Progress {
+pub struct RunProgress {
     pub order: usize,
     pub orders: usize,
 }
@@ -44,12 +44,12 @@ pub fn total(layout: Layout, image_length: usize) -> Result<usize, Refusal>
 }
 
 // The number of the order that a state asks for, and how many there are.
-fn progress_running(state: State) -> Progress
+fn progress_running(state: State) -> RunProgress
     requires { (fits state state.image_length ≡ true) × (running state ≡ true) }
     ensures { result ≡ progress_of state }
 {
     let before = orders_before(state.layout, state.image_length, state.phase);
-    Progress {
+    RunProgress {
         order: before + state.index + 1,
         orders: orders_before(state.layout, state.image_length, 7),
     }
@@ -57,7 +57,7 @@ fn progress_running(state: State) -> Progress
 
 // The number of the order that a state asks for, counted from 1, and how many its run has; or refusal 7 or 8. No image
 // is lent.
-pub fn progress(state: State) -> Result<Progress, Refusal>
+pub fn progress(state: State) -> Result<RunProgress, Refusal>
     ensures { Gives progress_numbers result (progress_answer state) }
 {
     let outcome = state.finished()?;

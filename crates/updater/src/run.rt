@@ -9,7 +9,6 @@ ghost use Rattle.updater.specs.Judging.{running_asked, on_judged};
 ghost use Rattle.updater.specs.Run.{finished_numbers, finished_answer, order_numbers, order_answer, reply_numbers, refused_reply, stop_of, reply_answer};
 
 use crate::state::{State, after_order, current_bytes, current_operation, fits_image};
-use crate::state::{State, after_order, current_bytes, current_operation, fits_image};
 use base::refusal::{Reason, Refusal, ask};
 use orders::judging::{Judgement, judge};
 use orders::{Operation, judging};
