@@ -1,12 +1,13 @@
 -- A C host gets an answer's numbers, each in a field: number and place, then the values in the order of the fields. What does not apply is 0. Here for what a chip loads, and an image by itself.
+use Rattle.std.specs.Prelude.{Option, Result}
 use Rattle.base.specs.Answer.{value}
 use Rattle.packets.specs.Trace.{write_numbers}
 use Rattle.bootreader.specs.Boot.{boot_numbers}
 use Rattle.bootreader.specs.Image.{image_numbers}
-use Rattle.results.specs.Types.{BootAnswer, ImageAnswer, WriteAnswer, TealsettleBoot, TealsettleWrite, TealsettleImage}
+use Rattle.results.specs.Types.{Refusal, Boot, Accepted, Write, TealsettleBoot, TealsettleWrite, TealsettleImage}
 
 -- `tealsettle_boot`: what the chip loads; or stuck, with the place; or a refusal
-unfoldable pub boot_result : BootAnswer → TealsettleBoot
+unfoldable pub boot_result : Result Boot Refusal → TealsettleBoot
 boot_result answer = record {
   number = (boot_numbers answer).number;
   place = (boot_numbers answer).place;
@@ -18,7 +19,7 @@ boot_result answer = record {
 }
 
 -- `tealsettle_write`: the i-th write, or that there is none, or a refusal
-unfoldable pub write_result : WriteAnswer → TealsettleWrite
+unfoldable pub write_result : Result (Option Write) Refusal → TealsettleWrite
 write_result answer = record {
   number = (write_numbers answer).number;
   place = (write_numbers answer).place;
@@ -29,7 +30,7 @@ write_result answer = record {
 }
 
 -- `tealsettle_image_check`: what the image loads by itself, or a refusal
-unfoldable pub image_result : ImageAnswer → TealsettleImage
+unfoldable pub image_result : Result Accepted Refusal → TealsettleImage
 image_result answer = record {
   number = (image_numbers answer).number;
   place = (image_numbers answer).place;

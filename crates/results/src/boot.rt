@@ -2,14 +2,17 @@
 ghost use Rattle.std.specs.Prelude.{◌≡◌};
 ghost use Rattle.results.specs.Boot.{boot_result, write_result, image_result};
 
-use bootreader::boot::BootAnswer;
-use bootreader::image::ImageAnswer;
-use packets::trace::WriteAnswer;
+use base::refusal::Refusal;
+use bootreader::boot::Boot;
+use bootreader::image::Accepted;
+use packets::trace::Write;
+
+// Stays: the C interface gets each answer as a struct of numbers, with a refusal's number and place in front.
 
 // A refusal's number and place; or 0, and whether the chip is stuck and at which place, else what it
 // loads.
 #[repr(C)]
-#[derive(Drop)]
+#[derive(Default, Drop)]
 pub struct TealsettleBoot {
     pub number: u32,
     pub place: usize,
@@ -22,7 +25,7 @@ pub struct TealsettleBoot {
 
 // A refusal's number and place; or 0, and whether there is such a write, and which.
 #[repr(C)]
-#[derive(Drop)]
+#[derive(Default, Drop)]
 pub struct TealsettleWrite {
     pub number: u32,
     pub place: usize,
@@ -34,7 +37,7 @@ pub struct TealsettleWrite {
 
 // A refusal's number and place; or 0, 0 and what the image loads.
 #[repr(C)]
-#[derive(Drop)]
+#[derive(Default, Drop)]
 pub struct TealsettleImage {
     pub number: u32,
     pub place: usize,
@@ -43,96 +46,78 @@ pub struct TealsettleImage {
     pub writes: usize,
 }
 
-pub fn boot_result(answer: BootAnswer) -> TealsettleBoot
-    ensures { result ≡ boot_result answer }
-{
-    match answer {
-        BootAnswer::Loaded {
-            sync,
-            end,
-            writes,
-            jumped,
-        } => TealsettleBoot {
-            number: 0,
-            place: 0,
-            stuck: 0,
-            jumped: jumped as u32,
-            sync,
-            end,
-            writes,
-        },
-        BootAnswer::Stuck { place } => TealsettleBoot {
-            number: 0,
-            place,
-            stuck: 1,
-            jumped: 0,
-            sync: 0,
-            end: 0,
-            writes: 0,
-        },
-        BootAnswer::Refused { number, place } => TealsettleBoot {
-            number,
-            place,
-            stuck: 0,
-            jumped: 0,
-            sync: 0,
-            end: 0,
-            writes: 0,
-        },
-    }
-}
+impl From<Result<Boot, Refusal>> for TealsettleBoot {
+    ghost from_gives = { λ answer given. given ≡ boot_result answer };
 
-pub fn write_result(answer: WriteAnswer) -> TealsettleWrite
-    ensures { result ≡ write_result answer }
-{
-    match answer {
-        WriteAnswer::Found(write) => {
-            let one = write;
-            TealsettleWrite {
-                number: 0,
-                place: 0,
-                found: 1,
-                register_number: one.register,
-                word: one.word,
-                word_place: one.place,
-            }
+    #[tactic(auto, unfolding(crate::specs::Boot::boot_result, bootreader::specs::Boot::boot_numbers))]
+    fn from(answer: Result<Boot, Refusal>) -> TealsettleBoot {
+        match answer {
+            Ok(Boot::Loaded {
+                sync,
+                end,
+                writes,
+                jumped,
+            }) => TealsettleBoot {
+                jumped: u32::from(jumped),
+                sync,
+                end,
+                writes,
+                ..TealsettleBoot::default()
+            },
+            Ok(Boot::Stuck { place }) => TealsettleBoot {
+                place,
+                stuck: 1,
+                ..TealsettleBoot::default()
+            },
+            Err(refusal) => TealsettleBoot {
+                number: refusal.reason.number(),
+                place: refusal.place,
+                ..TealsettleBoot::default()
+            },
         }
-        WriteAnswer::Nothing => TealsettleWrite {
-            number: 0,
-            place: 0,
-            found: 0,
-            register_number: 0,
-            word: 0,
-            word_place: 0,
-        },
-        WriteAnswer::Refused { number, place } => TealsettleWrite {
-            number,
-            place,
-            found: 0,
-            register_number: 0,
-            word: 0,
-            word_place: 0,
-        },
     }
 }
 
-pub fn image_result(answer: ImageAnswer) -> TealsettleImage
-    ensures { result ≡ image_result answer }
-{
-    match answer {
-        ImageAnswer::Accepted { sync, end, writes } => TealsettleImage {
-            number: 0,
-            place: 0,
-            sync,
-            end,
-            writes,
-        },
-        ImageAnswer::Refused { number, place } => TealsettleImage {
-            number,
-            place,
-            sync: 0,
-            end: 0,
-            writes: 0,
-        },
+impl From<Result<Option<Write>, Refusal>> for TealsettleWrite {
+    ghost from_gives = { λ answer given. given ≡ write_result answer };
+
+    #[tactic(auto, unfolding(crate::specs::Boot::write_result, packets::specs::Trace::write_values, base::specs::Answer::in_numbers))]
+    fn from(answer: Result<Option<Write>, Refusal>) -> TealsettleWrite {
+        match answer {
+            Ok(Some(write)) => TealsettleWrite {
+                found: 1,
+                register_number: write.register,
+                word: write.word,
+                word_place: write.place,
+                ..TealsettleWrite::default()
+            },
+            Ok(None) => TealsettleWrite::default(),
+            Err(refusal) => TealsettleWrite {
+                number: refusal.reason.number(),
+                place: refusal.place,
+                ..TealsettleWrite::default()
+            },
+        }
+    }
+}
+
+impl From<Result<Accepted, Refusal>> for TealsettleImage {
+    ghost from_gives = { λ answer given. given ≡ image_result answer };
+
+    #[tactic(auto, unfolding(crate::specs::Boot::image_result, base::specs::Answer::in_numbers))]
+    fn from(answer: Result<Accepted, Refusal>) -> TealsettleImage {
+        match answer {
+            Ok(Accepted { sync, end, writes }) => TealsettleImage {
+                sync,
+                end,
+                writes,
+                ..TealsettleImage::default()
+            },
+            Err(refusal) => TealsettleImage {
+                number: refusal.reason.number(),
+                place: refusal.place,
+                ..TealsettleImage::default()
+            },
+        }
     }
 }

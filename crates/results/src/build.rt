@@ -2,24 +2,28 @@
 ghost use Rattle.std.specs.Prelude.{◌≡◌};
 ghost use Rattle.results.specs.Build.{build_result};
 
-use builder::BuildAnswer;
+use base::refusal::Refusal;
 
 // A refusal's number and place, or 0 and 0.
+// Stays: the C interface gets an answer as a struct of numbers, with a refusal's number and place.
 #[repr(C)]
-#[derive(Drop)]
+#[derive(Default, Drop)]
 pub struct TealsettleBuild {
     pub number: u32,
     pub place: usize,
 }
 
-pub fn build_result(answer: BuildAnswer) -> TealsettleBuild
-    ensures { result ≡ build_result answer }
-{
-    match answer {
-        BuildAnswer::Built => TealsettleBuild {
-            number: 0,
-            place: 0,
-        },
-        BuildAnswer::Refused { number, place } => TealsettleBuild { number, place },
+impl From<Result<(), Refusal>> for TealsettleBuild {
+    ghost from_gives = { λ answer given. given ≡ build_result answer };
+
+    #[tactic(auto, unfolding(crate::specs::Build::build_result, base::specs::Answer::in_numbers))]
+    fn from(answer: Result<(), Refusal>) -> TealsettleBuild {
+        match answer {
+            Ok(()) => TealsettleBuild::default(),
+            Err(refusal) => TealsettleBuild {
+                number: refusal.reason.number(),
+                place: refusal.place,
+            },
+        }
     }
 }

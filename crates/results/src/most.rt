@@ -2,30 +2,33 @@
 ghost use Rattle.std.specs.Prelude.{◌≡◌};
 ghost use Rattle.results.specs.Most.{most_result};
 
-use heaviest::MostAnswer;
+use base::refusal::Refusal;
 
 // A refusal's number and place, or 0, 0 and how many writes.
+// Stays: the C interface gets an answer as a struct of numbers, with a refusal's number and place in front.
 #[repr(C)]
-#[derive(Drop)]
+#[derive(Default, Drop)]
 pub struct TealsettleMost {
     pub number: u32,
     pub place: usize,
     pub writes: usize,
 }
 
-pub fn most_result(answer: MostAnswer) -> TealsettleMost
-    ensures { result ≡ most_result answer }
-{
-    match answer {
-        MostAnswer::Most { writes } => TealsettleMost {
-            number: 0,
-            place: 0,
-            writes,
-        },
-        MostAnswer::Refused { number, place } => TealsettleMost {
-            number,
-            place,
-            writes: 0,
-        },
+impl From<Result<usize, Refusal>> for TealsettleMost {
+    ghost from_gives = { λ answer given. given ≡ most_result answer };
+
+    #[tactic(auto, unfolding(crate::specs::Most::most_result, base::specs::Answer::in_numbers))]
+    fn from(answer: Result<usize, Refusal>) -> TealsettleMost {
+        match answer {
+            Ok(writes) => TealsettleMost {
+                writes,
+                ..TealsettleMost::default()
+            },
+            Err(refusal) => TealsettleMost {
+                number: refusal.reason.number(),
+                place: refusal.place,
+                ..TealsettleMost::default()
+            },
+        }
     }
 }

@@ -2,30 +2,33 @@
 ghost use Rattle.std.specs.Prelude.{◌≡◌};
 ghost use Rattle.results.specs.Text.{read_result};
 
-use mcs::reader::ReadAnswer;
+use base::refusal::Refusal;
 
 // A refusal's number and place, or 0, 0 and how many bytes were read.
+// Stays: the C interface gets an answer as a struct of numbers, with a refusal's number and place in front.
 #[repr(C)]
-#[derive(Drop)]
+#[derive(Default, Drop)]
 pub struct TealsettleRead {
     pub number: u32,
     pub place: usize,
     pub length: usize,
 }
 
-pub fn read_result(answer: ReadAnswer) -> TealsettleRead
-    ensures { result ≡ read_result answer }
-{
-    match answer {
-        ReadAnswer::Read { length } => TealsettleRead {
-            number: 0,
-            place: 0,
-            length,
-        },
-        ReadAnswer::Refused { number, place } => TealsettleRead {
-            number,
-            place,
-            length: 0,
-        },
+impl From<Result<usize, Refusal>> for TealsettleRead {
+    ghost from_gives = { λ answer given. given ≡ read_result answer };
+
+    #[tactic(auto, unfolding(crate::specs::Text::read_result, base::specs::Answer::in_numbers))]
+    fn from(answer: Result<usize, Refusal>) -> TealsettleRead {
+        match answer {
+            Ok(length) => TealsettleRead {
+                length,
+                ..TealsettleRead::default()
+            },
+            Err(refusal) => TealsettleRead {
+                number: refusal.reason.number(),
+                place: refusal.place,
+                ..TealsettleRead::default()
+            },
+        }
     }
 }
