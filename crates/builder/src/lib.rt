@@ -5,22 +5,14 @@ ghost use Rattle.std.specs.Prelude.{◌≡◌, ◌+◌, ◌≤◌, length};
 ghost use Rattle.kind.specs.Spi.{spi};
 ghost use Rattle.base.specs.Answer.{Gives};
 ghost use Rattle.base.specs.Output.{front_filled};
-ghost use Rattle.kind.specs.Layout.{layout_answer, golden_at};
-ghost use Rattle.builder.specs.Builder.{built_chip, golden_answer, build_numbers, build_answer, output_of, build_output, LoadsGolden};
-ghost use Rattle.builder.specs.Types.{LayoutAllowed};
+ghost use Rattle.kind.specs.Layout.{golden_at};
+ghost use Rattle.builder.specs.Builder.{built_chip, build_numbers, build_answer, build_output, LoadsGolden};
 
-use base::refusal;
-use bootreader::image::{ImageAnswer, check_within};
+use base::refusal::{Reason, Refusal, ask};
+use bootreader::image::check_within;
 use flash::{erase, overwrite};
-use kind::layout::{Layout, LayoutAnswer};
+use kind::layout::Layout;
 use kind::spi::Spi;
-
-// The chip was built, or a refusal that left the buffer as it was.
-#[derive(Drop)]
-pub enum BuildAnswer {
-    Built,
-    Refused { number: u32, place: usize },
-}
 
 // Writes the chip into a buffer that it fits into.
 fn write_chip(layout: Layout, golden: &[u8], out: &mut [u8])
@@ -34,42 +26,16 @@ fn write_chip(layout: Layout, golden: &[u8], out: &mut [u8])
     let _ = overwrite(out, Spi::GOLDEN, golden);
 }
 
-// Questions 4, 5 and 13, for a layout that is allowed.
-fn build_allowed(layout: Layout, golden: &[u8], out: &mut [u8]) -> BuildAnswer
-    requires { layout_answer layout ≡ LayoutAllowed }
-    ensures answer { result ≡ golden_answer spi layout golden.now (length out.old) }
-    ensures output { out.new ≡ output_of spi (golden_answer spi layout golden.now (length out.old)) layout golden.now out.old }
-{
-    let checked = check_within(golden, layout.update_place - Spi::GOLDEN);
-    match checked {
-        ImageAnswer::Accepted {
-            sync: _,
-            end: _,
-            writes: _,
-        } => {
-            if out.len() < layout.chip_length {
-                return BuildAnswer::Refused {
-                    number: refusal::NO_ROOM,
-                    place: 0,
-                };
-            }
-            write_chip(layout, golden, out);
-            BuildAnswer::Built
-        }
-        ImageAnswer::Refused { number, place } => BuildAnswer::Refused { number, place },
-    }
-}
-
 // Builds a chip at the front of a buffer: F bytes, and those after them are unchanged. Refusals 1 to 6 and 19 leave the
 // buffer as it was.
-pub fn build(layout: Layout, golden: &[u8], out: &mut [u8]) -> BuildAnswer
+pub fn build(layout: Layout, golden: &[u8], out: &mut [u8]) -> Result<(), Refusal>
     ensures answer { Gives build_numbers result (build_answer spi layout golden.now (length out.old)) }
     ensures output { out.new ≡ build_output spi layout golden.now out.old }
     ensures loads { LoadsGolden spi result layout golden.now out.new }
 {
-    let allowed = layout.check();
-    match allowed {
-        LayoutAnswer::Allowed => build_allowed(layout, golden, out),
-        LayoutAnswer::Refused { number, place } => BuildAnswer::Refused { number, place },
-    }
+    layout.check()?;
+    check_within(golden, layout.update_place - Spi::GOLDEN)?;
+    ask(layout.chip_length <= out.len(), Reason::NoRoom)?;
+    write_chip(layout, golden, out);
+    Ok(())
 }

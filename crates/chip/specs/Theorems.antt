@@ -1,12 +1,11 @@
 -- What is proved of chips: that the SPI kind keeps the laws of a kind, that a well-formed chip stays so, and that it names its own U.
-use Rattle.std.specs.Prelude.{ℕ, ◌+◌, ◌^◌, ◌<◌, ◌≤◌, ◌≡◌, true, List, length}
+use Rattle.std.specs.Prelude.{ℕ, ◌+◌, ◌^◌, ◌<◌, ◌≤◌, ◌≡◌, true, List, length, Some, Ok}
 use Rattle.kind.specs.Layout.{chip_length_allowed, segment, switch_at}
 use Rattle.kind.specs.Kind.{Kind}
 use Rattle.kind.specs.Spi.{spi}
 use Rattle.flash.specs.Flash.{erased, overwrite, after_program}
 use Rattle.chip.specs.Cut.{MayLeave}
 use Rattle.chip.specs.UpdatePlace.{begins_for, place_answer}
-use Rattle.chip.specs.Types.{PlaceFound}
 use Rattle.chip.specs.Chip.{switch_word, BitSuperset, WellFormed, Lawful}
 
 -- The SPI kind keeps the laws of a kind: OFF loads the golden area, ON the image that stands at U.
@@ -28,8 +27,8 @@ pub record StaysWellFormed : Type 0 where
 -- An SPI chip names where its update area begins.
 pub record NamedPlace : Type 0 where
   -- The U of a well-formed chip is the one found;
-  pub well_formed : (update_place : ℕ) (chip : List ℕ) → WellFormed spi update_place chip → place_answer spi chip ≡ PlaceFound update_place
+  pub well_formed : (update_place : ℕ) (chip : List ℕ) → WellFormed spi update_place chip → place_answer spi chip ≡ Ok (Some update_place)
   -- segment 1 begins with the words for a U that is found;
-  pub found : (update_place : ℕ) (chip : List ℕ) → place_answer spi chip ≡ PlaceFound update_place → begins_for spi update_place chip ≡ true
+  pub found : (update_place : ℕ) (chip : List ℕ) → place_answer spi chip ≡ Ok (Some update_place) → begins_for spi update_place chip ≡ true
   -- and every U whose words it begins with is found, so where nothing is found it begins so for none.
-  pub every : (update_place : ℕ) (chip : List ℕ) → update_place < 2 ^ 32 → chip_length_allowed (length chip) ≡ true → begins_for spi update_place chip ≡ true → place_answer spi chip ≡ PlaceFound update_place
+  pub every : (update_place : ℕ) (chip : List ℕ) → update_place < 2 ^ 32 → chip_length_allowed (length chip) ≡ true → begins_for spi update_place chip ≡ true → place_answer spi chip ≡ Ok (Some update_place)

@@ -1,13 +1,13 @@
 -- The image with most writes, and how many it has: each call as one definition. Document 02, M-111.
-use Rattle.std.specs.Prelude.{ℕ, ◌+◌, ◌-◌, ◌/◌, ◌%◌, Bool, true, false, List, [], ◌∷◌, ◌++◌, leb, replicate}
-use Rattle.base.specs.Answer.{Numbered, result, refusal}
+use Rattle.std.specs.Prelude.{ℕ, ◌+◌, ◌-◌, ◌/◌, ◌%◌, Bool, true, false, List, [], ◌∷◌, ◌++◌, leb, replicate, Result, Ok}
+use Rattle.base.specs.Answer.{Numbered, in_numbers}
 use Rattle.base.specs.Output.{front_filled}
 use Rattle.base.specs.Question.{ask}
-use Rattle.base.specs.Refusal.{bad_heaviest_length, no_room}
+use Rattle.base.specs.Refusal.{refused}
 use Rattle.framing.specs.Words.{bytes_of_words}
 use Rattle.packets.specs.Header.{DESYNC}
 use Rattle.bootreader.specs.Image.{shortest_image, longest_image}
-use Rattle.heaviest.specs.Types.{MostAnswer, Most, MostRefused}
+use Rattle.heaviest.specs.Types.{BadHeaviestLength, NoRoom, Refusal}
 
 -- In place of question 4: can an accepted image have n bytes, 12 to 16,777,216?
 unfoldable pub heaviest_length_allowed : ℕ → Bool
@@ -42,19 +42,18 @@ abbrev pub heaviest_image : ℕ → List ℕ
 heaviest_image n = bytes_of_words (heaviest_words (n / 4)) ++ replicate (n % 4) 0xFF
 
 -- in numbers: how many writes
-unfoldable pub most_numbers : MostAnswer → Numbered
-most_numbers (Most writes) = result (writes ∷ [])
-most_numbers (MostRefused number place) = refusal number place
+abbrev pub most_numbers : Result ℕ Refusal → Numbered
+most_numbers = in_numbers (λ writes. writes ∷ [])
 
 -- `most_writes`: 29 at 0, then the number
-unfoldable pub most_answer : ℕ → MostAnswer
-most_answer n = ask (heaviest_length_allowed n) (MostRefused bad_heaviest_length 0) (Most (most_writes n))
+unfoldable pub most_answer : ℕ → Result ℕ Refusal
+most_answer n = ask (heaviest_length_allowed n) (refused BadHeaviestLength 0) (Ok (most_writes n))
 
 -- `write_image`: 29, then question 13 (refusal 19), both at 0; and the number of the image that was written
-unfoldable pub heaviest_answer : ℕ → ℕ → MostAnswer
+unfoldable pub heaviest_answer : ℕ → ℕ → Result ℕ Refusal
 heaviest_answer n room =
-    ask (heaviest_length_allowed n) (MostRefused bad_heaviest_length 0)
-    (ask (leb n room) (MostRefused no_room 0) (Most (most_writes n)))
+    ask (heaviest_length_allowed n) (refused BadHeaviestLength 0)
+    (ask (leb n room) (refused NoRoom 0) (Ok (most_writes n)))
 
 -- The image fills the front of the lent buffer; a refusal leaves it as it was.
 unfoldable pub heaviest_output : ℕ → List ℕ → List ℕ

@@ -1,7 +1,7 @@
 // The accepted image with most writes for its length, and how many it has.
 #![tactic(auto)]
 
-ghost use Rattle.std.specs.Prelude.{◌≡◌, [], ◌∷◌, ◌+◌, ◌≤◌, length};
+ghost use Rattle.std.specs.Prelude.{◌≡◌, ◌*◌, ◌≤◌, length};
 ghost use Rattle.base.specs.Answer.{Gives};
 ghost use Rattle.base.specs.Output.{front_filled};
 ghost use Rattle.framing.specs.Words.{bytes_of_words};
@@ -10,7 +10,7 @@ ghost use Rattle.flash.specs.Flash.{overwrite_in_range};
 ghost use Rattle.heaviest.specs.Heaviest.{heaviest_length_allowed, most_in, most_writes, heaviest_image, most_numbers, most_answer, heaviest_answer, heaviest_output};
 ghost use Rattle.heaviest.specs.Internal.{opening};
 
-use base::refusal;
+use base::refusal::{Reason, Refusal, ask};
 use flash::{erase, fill, overwrite};
 use kind::spi::Spi;
 
@@ -20,24 +20,21 @@ const SHORTEST: usize = 12;
 // Up to so many words one type 1 header has room for the count of all data words, 2,047; beyond, a type 2 header has it.
 const TYPE1_WORDS: usize = 2_049;
 
+// The sync word, and the headers of a write to CMD without their counts.
+const SYNC: u32 = 0xAA99_5566;
+
+const TYPE1: u32 = 0x3000_8000;
+
+const TYPE2: u32 = 0x5000_0000;
+
 // The word that ends the reading, as its bytes.
 const DESYNC: [u8; 4] = [0x00, 0x00, 0x00, 0x0D];
-
-// How many writes, or a refusal that left lent memory as it was.
-#[derive(Drop)]
-pub enum MostAnswer {
-    Most { writes: usize },
-    Refused { number: u32, place: usize },
-}
 
 // Can an accepted image have this length?
 fn length_allowed(length: usize) -> bool
     ensures { result ≡ heaviest_length_allowed length }
 {
-    if length < SHORTEST {
-        return false;
-    }
-    length <= Spi::LONGEST
+    SHORTEST <= length && length <= Spi::LONGEST
 }
 
 // The greatest number of writes in so many words: all but the sync word and the headers of one packet.
@@ -51,55 +48,28 @@ fn most_in(words: usize) -> usize
     words - 3
 }
 
-// The sync word and the packet's header, of type 1.
-fn one_header(writes: usize) -> [u8; 8]
-    requires { writes ≤ longest_image }
-    ensures { result ≡ bytes_of_words (0xAA995566 ∷ (0x30008000 + writes) ∷ []) }
+// Writes words to the front of a buffer, high byte first.
+fn put_words(words: &[u32], out: &mut [u8])
+    requires { 4 * length words.now ≤ length out.old }
+    ensures { out.new ≡ overwrite_in_range out.old 0 (length (bytes_of_words words.now)) (bytes_of_words words.now) }
 {
-    let header = 0x3000_8000 + writes;
-    [
-        0xAA,
-        0x99,
-        0x55,
-        0x66,
-        (header / 16_777_216 % 256) as u8,
-        (header / 65_536 % 256) as u8,
-        (header / 256 % 256) as u8,
-        (header % 256) as u8,
-    ]
+    for (i, word) in words.iter().enumerate() {
+        // The span lies within the buffer, so this is not refused.
+        let _ = overwrite(out, 4 * i, &word.to_be_bytes());
+    }
 }
 
-// The sync word, a type 1 header of count 0 and the type 2 header after it.
-fn two_headers(writes: usize) -> [u8; 12]
-    requires { writes ≤ longest_image }
-    ensures { result ≡ bytes_of_words (0xAA995566 ∷ 0x30008000 ∷ (0x50000000 + writes) ∷ []) }
-{
-    let header = 0x5000_0000 + writes;
-    [
-        0xAA,
-        0x99,
-        0x55,
-        0x66,
-        0x30,
-        0x00,
-        0x80,
-        0x00,
-        (header / 16_777_216 % 256) as u8,
-        (header / 65_536 % 256) as u8,
-        (header / 256 % 256) as u8,
-        (header % 256) as u8,
-    ]
-}
-
-// Writes what comes before the data words to the front of a buffer.
+// Writes what comes before the data words to the front of a buffer: the sync word, and the packet's header of type 1; or, where
+// that has no room for the count, one of count 0 and the header of type 2 after it.
 fn put_opening(words: usize, writes: usize, out: &mut [u8])
-    requires { (writes ≡ most_in words) × (words ≤ longest_image) }
+    requires { (writes ≡ most_in words) × (words ≤ longest_image) × (length (opening words) ≤ length out.old) }
     ensures { out.new ≡ overwrite_in_range out.old 0 (length (opening words)) (opening words) }
 {
+    let count = writes as u32;
     if words <= TYPE1_WORDS {
-        let _ = overwrite(out, 0, &one_header(writes));
+        put_words(&[SYNC, TYPE1 + count], out);
     } else {
-        let _ = overwrite(out, 0, &two_headers(writes));
+        put_words(&[SYNC, TYPE1, TYPE2 + count], out);
     }
 }
 
@@ -119,38 +89,21 @@ fn put_image(image_length: usize, writes: usize, out: &mut [u8])
 }
 
 // The greatest number of writes that an accepted image of so many bytes can have; or refusal 29.
-pub fn most_writes(image_length: usize) -> MostAnswer
+pub fn most_writes(image_length: usize) -> Result<usize, Refusal>
     ensures { Gives most_numbers result (most_answer image_length) }
 {
-    if !length_allowed(image_length) {
-        return MostAnswer::Refused {
-            number: refusal::BAD_HEAVIEST_LENGTH,
-            place: 0,
-        };
-    }
-    MostAnswer::Most {
-        writes: most_in(image_length / 4),
-    }
+    ask(length_allowed(image_length), Reason::BadHeaviestLength)?;
+    Ok(most_in(image_length / 4))
 }
 
 // Writes an image of so many bytes, with as many writes as an accepted one can have, to the front of a buffer; or refusal 29
 // or 19, and the buffer as it was.
-pub fn write_image(image_length: usize, out: &mut [u8]) -> MostAnswer
+pub fn write_image(image_length: usize, out: &mut [u8]) -> Result<usize, Refusal>
     ensures answer { Gives most_numbers result (heaviest_answer image_length (length out.old)) }
     ensures output { out.new ≡ heaviest_output image_length out.old }
 {
-    let most = most_writes(image_length);
-    match most {
-        MostAnswer::Most { writes } => {
-            if out.len() < image_length {
-                return MostAnswer::Refused {
-                    number: refusal::NO_ROOM,
-                    place: 0,
-                };
-            }
-            put_image(image_length, writes, out);
-            MostAnswer::Most { writes }
-        }
-        MostAnswer::Refused { number, place } => MostAnswer::Refused { number, place },
-    }
+    let writes = most_writes(image_length)?;
+    ask(image_length <= out.len(), Reason::NoRoom)?;
+    put_image(image_length, writes, out);
+    Ok(writes)
 }

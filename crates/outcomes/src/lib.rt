@@ -22,12 +22,8 @@ pub struct TealsettleCounts {
 fn count_changing(old: u32, changing: u32) -> TealsettleCounts
     ensures { result ≡ changing_counts old changing }
 {
-    let exponent = u32::count_ones(changing) as u64;
-    let words = 1u64 << exponent;
-    let mut on = 0;
-    if (Spi::ON_WORD ^ old) & !changing == 0 {
-        on = 1;
-    }
+    let words = 1u64 << changing.count_ones();
+    let on = u64::from((Spi::ON_WORD ^ old) & !changing == 0);
     TealsettleCounts { words, on }
 }
 
