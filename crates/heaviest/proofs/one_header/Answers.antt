@@ -1,8 +1,0 @@
--- `one_header` meets its contract.
-use mathlib.Core.Path.{refl}
-use Rattle.framing.specs.Words.{bytes_of_words}
-use Rattle.heaviest.proofs.one_header.Goals as goal
-
-pub returns : goal.returns
-unfolding bytes_of_words
-returns c = refl
