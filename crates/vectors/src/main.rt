@@ -31,45 +31,39 @@
 // number or no byte, or with a number or bytes that there is no room for.
 #![tactic(auto)]
 
-ghost use Rattle.std.specs.Prelude.{◌≤◌, length};
-
 use caseanswers as say;
 use caseasks::{Case, read_case};
-use caselines::{room, words};
+use caselines::call::Call;
+use caselines::room;
+use input::read_full;
 use std::io;
-use std::io::{BufWriter, Read, Write};
+use std::io::{BufWriter, Write};
 
 // The call of a case, with the bytes of its fields.
 fn call(out: &mut impl Write, case: Case, given: &[u8]) -> io::Result<()> {
-    let key = case.key;
-    match key {
-        words::BUILD | words::READ | words::CUT => lentcases::call(out, case, given),
-        words::LAYOUT
-        | words::TOTAL
-        | words::ENDED
-        | words::PROGRESS
-        | words::START
-        | words::ORDER
-        | words::REPLY => runcases::call(out, case, given),
-        words::BOOT | words::SWITCH | words::WRITE | words::LIST => chipcases::call_chip(
+    match case.call {
+        Call::Build | Call::Read | Call::Cut => lentcases::call(out, case, given),
+        Call::Boot | Call::Switch | Call::Write | Call::List => chipcases::call_chip(
             out, case, given,
         ),
-        words::CHECK | words::ITEM | words::ITEMS | words::PACKETS => chipcases::call_image(
+        Call::Check | Call::Item | Call::Items | Call::Packets => chipcases::call_image(
             out, case, given,
         ),
-        _ => say::word(out, words::WRONG),
+        _ => runcases::call(out, case, given),
     }
 }
 
 // Prints the answer to a line, where it asks something.
 fn run_line(out: &mut impl Write, line: &[u8]) -> io::Result<()> {
     let mut given = room();
-    let case = read_case(line, &mut given);
-    if case.key == words::COMMENT {
-        return Ok(());
+    match read_case(line, &mut given) {
+        Ok(None) => Ok(()),
+        Ok(Some(case)) => {
+            say::word(out, "=")?;
+            call(out, case, &given)
+        }
+        Err(_) => write!(out, " = ?"),
     }
-    say::word(out, words::EQUALS)?;
-    call(out, case, &given)
 }
 
 // Prints a line as it is, and its answer behind it.
@@ -80,33 +74,10 @@ fn print_line(out: &mut impl Write, line: &[u8]) -> io::Result<()> {
 }
 
 fn run_lines(out: &mut impl Write, input: &[u8]) -> io::Result<()> {
-    let mut at = 0;
-    while at < input.len() {
-        let rest = &input[at..];
-        let length = rest.iter().position(|b| *b == b'\n').unwrap_or(rest.len());
-        print_line(out, &rest[..length])?;
-        if length == rest.len() {
-            break;
-        }
-        at += length + 1;
+    for line in input.split_inclusive(|b| *b == b'\n') {
+        print_line(out, line.strip_suffix(b"\n").unwrap_or(line))?;
     }
     Ok(())
-}
-
-// Reads into a buffer until it is full or the reader is at its end: how many bytes. A read that fails counts as the
-// end.
-fn read_full(from: &mut impl Read, buffer: &mut [u8]) -> usize
-    ensures { result ≤ length buffer.new }
-{
-    let mut size = 0;
-    while size < buffer.len() {
-        let more = from.read(&mut buffer[size..]).unwrap_or(0);
-        if more == 0 {
-            break;
-        }
-        size += more;
-    }
-    size
 }
 
 fn main(rt: HostRuntime) -> io::Result<()> {
@@ -116,7 +87,7 @@ fn main(rt: HostRuntime) -> io::Result<()> {
     run_lines(&mut out, &input[..length])?;
     // there may be lines that were not read
     if length == input.len() {
-        say::word(&mut out, words::WRONG)?;
+        say::word(&mut out, "?")?;
     }
     out.flush()
 }
