@@ -1,13 +1,12 @@
 -- The start of a run, its number of orders, and the number of one of them, each call as one definition. Document 01, "Questions at the door".
 use Rattle.std.specs.Prelude.{ℕ, ◌+◌, List, [], ◌∷◌, Result, Ok, length}
 use Rattle.bootreader.specs.Image.{ask_image}
-use Rattle.base.specs.Types.{Reason, BadImageLength, BadState, RunEnded, Refusal}
 use Rattle.base.specs.Refusal.{refused}
 use Rattle.base.specs.Answer.{Numbered, in_numbers}
 use Rattle.base.specs.Question.{ask}
 use Rattle.kind.specs.Layout.{image_length_allowed, ask_layout}
 use Rattle.kind.specs.Kind.{Kind}
-use Rattle.starts.specs.Types.{Layout, State, RunProgress}
+use Rattle.starts.specs.Types.{Reason, BadImageLength, BadState, RunEnded, Refusal, Layout, State, RunProgress}
 use Rattle.orders.specs.Table.{total}
 use Rattle.updater.specs.State.{state_numbers, position, first, running, fits}
 

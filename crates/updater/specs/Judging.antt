@@ -1,9 +1,8 @@
 -- Questions 6 and 7 by themselves, and the answer to a reply that was judged. Only contracts of functions that are no public calls cite it.
-use Rattle.std.specs.Prelude.{ℕ, Unit, tt, Result, Ok}
-use Rattle.base.specs.Types.{BadState, RunEnded, BadReply, Refusal}
+use Rattle.std.specs.Prelude.{ℕ, Result, Ok}
 use Rattle.base.specs.Refusal.{refused}
 use Rattle.base.specs.Question.{ask}
-use Rattle.updater.specs.Types.{Judgement, NotAsked, Agrees, JudgedDiffers, State, Reply, Next, Stopped, RefusedReply}
+use Rattle.updater.specs.Types.{BadState, RunEnded, BadReply, Refusal, Judgement, NotAsked, Agrees, JudgedDiffers, State, Reply, Next, Stopped, RefusedReply}
 use Rattle.updater.specs.State.{after, ended, fits, running}
 use Rattle.updater.specs.Run.{refused_reply, stop_of}
 

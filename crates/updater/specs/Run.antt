@@ -1,6 +1,5 @@
 -- The public calls on a run, each as one definition. Document 01, "Orders of one run" and "Questions at the door".
 use Rattle.std.specs.Prelude.{ℕ, Bool, true, false, List, [], ◌∷◌, ◌++◌, Option, Some, None, Result, Ok, Err, length}
-use Rattle.base.specs.Types.{Reason, BadState, RunEnded, BadReply, SwitchNotErased, UpdateDiffers, SwitchNotOn, Refusal}
 use Rattle.base.specs.Refusal.{number_of, refused}
 use Rattle.base.specs.Answer.{Numbered, result, in_numbers}
 use Rattle.base.specs.Question.{ask}
@@ -12,7 +11,7 @@ use Rattle.orders.specs.Orders.{Order, erase, program, look, operation_of, order
 use Rattle.orders.specs.Replies.{done, read, asks_for}
 use Rattle.updater.specs.State.{state_numbers, after, ended, running, fits, current_order}
 use Rattle.comparison.specs.Comparison.{differs}
-use Rattle.updater.specs.Types.{Operation, Erase, Program, Look, State, OrderAnswer, Reply, Next, Stopped, RefusedReply}
+use Rattle.updater.specs.Types.{Reason, BadState, RunEnded, BadReply, SwitchNotErased, UpdateDiffers, SwitchNotOn, Refusal, Operation, Erase, Program, Look, State, OrderAnswer, Reply, Next, Stopped, RefusedReply}
 
 -- in numbers: 0 for a run that goes on; 1 and the outcome for one that has ended
 unfoldable pub outcome_values : Option ℕ → List ℕ

@@ -1,11 +1,10 @@
 -- A run's state, and its current order. Run, phase and outcome are document 01's terms. Document 01, "Orders of one run" and question 6.
 use Rattle.std.specs.Prelude.{ℕ, ◌+◌, Bool, true, false, List, [], ◌∷◌, eqb, leb, ltb, get_or}
-use Rattle.base.specs.Types.{SwitchNotErased, SwitchNotOn}
 use Rattle.base.specs.Refusal.{number_of}
 use Rattle.base.specs.Question.{ask}
 use Rattle.kind.specs.Layout.{image_length_allowed, ask_layout}
 use Rattle.kind.specs.Kind.{Kind}
-use Rattle.updater.specs.Types.{Layout, State}
+use Rattle.updater.specs.Types.{SwitchNotErased, SwitchNotOn, Layout, State}
 use Rattle.orders.specs.Table.{count, count_before}
 use Rattle.orders.specs.Orders.{Order, erase, orders}
 
