@@ -1,8 +1,9 @@
 -- A C host gets an answer's numbers, each in a field: number and place, then the values in the order of the fields. What does not apply is 0. Here for a cursor over the writes.
-use Rattle.std.specs.Prelude.{ℕ, List, get_or, drop}
-use Rattle.base.specs.Answer.{Numbered, value}
+use Rattle.std.specs.Prelude.{ℕ, List, get_or, drop, Option, Result, Ok, Err}
+use Rattle.base.specs.Answer.{Numbered, value, refusal}
+use Rattle.base.specs.Refusal.{number_of}
 use Rattle.writes.specs.Cursor.{listing_numbers, step_numbers}
-use Rattle.fileresults.specs.Types.{Cursor, CursorStep, Listing, TealsettleCursor, TealsettleListing, TealsettleStep}
+use Rattle.fileresults.specs.Types.{Refusal, Cursor, Step, TealsettleCursor, TealsettleListing, TealsettleStep}
 
 -- The cursor that a host's numbers are, and a cursor's numbers, each in its field.
 abbrev pub given_cursor : ℕ → ℕ → ℕ → ℕ → Cursor
@@ -17,7 +18,7 @@ cursor_fields numbers = record {
 }
 
 -- `tealsettle_writes` and `tealsettle_image_writes`: a cursor before the first write, or a refusal
-unfoldable pub listing_result : Listing → TealsettleListing
+unfoldable pub listing_result : Result Cursor Refusal → TealsettleListing
 listing_result answer = record {
   number = (listing_numbers answer).number;
   place = (listing_numbers answer).place;
@@ -25,6 +26,10 @@ listing_result answer = record {
 }
 
 -- `tealsettle_next_write`, of numbers: a step has no refusal of its own, and the kind of chip is asked before it
+unfoldable pub next_numbers : Result (Option Step) Refusal → Numbered
+next_numbers (Ok step) = step_numbers step
+next_numbers (Err r) = refusal (number_of r.reason) r.place
+
 unfoldable pub step_fields : Numbered → TealsettleStep
 step_fields numbers = record {
   number = numbers.number;
@@ -36,6 +41,6 @@ step_fields numbers = record {
   cursor = cursor_fields (drop 4 numbers.values);
 }
 
--- a write and the cursor after it, or that there is none
-abbrev pub step_result : CursorStep → TealsettleStep
-step_result step = step_fields (step_numbers step)
+-- a write and the cursor after it, or that there is none; or a refusal
+abbrev pub step_result : Result (Option Step) Refusal → TealsettleStep
+step_result answer = step_fields (next_numbers answer)

@@ -1,11 +1,9 @@
 -- The types of the code that this crate's definitions and proofs name, with their cases; each has one name in the whole tree.
+pub use Rattle.base.specs.declared.refusal.Refusal.{Refusal}
 pub use Rattle.writes.specs.declared.cursor.Cursor.{Cursor}
-pub use Rattle.writes.specs.declared.cursor.CursorStep.{CursorStep}
-pub use Rattle.writes.specs.declared.cursor.Listing.{Listing}
-pub use Rattle.imagefile.specs.declared.FormAnswer.{FormAnswer}
-pub use Rattle.chip.specs.declared.switch.SwitchAnswer.{SwitchAnswer}
-pub use Rattle.chip.specs.declared.update_place.PlaceAnswer.{PlaceAnswer}
-pub use Rattle.report.specs.declared.refusal.ReportAnswer.{ReportAnswer}
+pub use Rattle.writes.specs.declared.cursor.Step.{Step}
+pub use Rattle.imagefile.specs.declared.FileForm.{FileForm}
+pub use Rattle.chip.specs.declared.switch.Switch.{Switch}
 pub use Rattle.fileresults.specs.declared.form.TealsettleForm.{TealsettleForm}
 pub use Rattle.fileresults.specs.declared.list.TealsettleCursor.{TealsettleCursor}
 pub use Rattle.fileresults.specs.declared.list.TealsettleListing.{TealsettleListing}

@@ -2,9 +2,11 @@
 ghost use Rattle.std.specs.Prelude.{◌≡◌};
 ghost use Rattle.fileresults.specs.Form.{form_result};
 
-use imagefile::FormAnswer;
+use base::refusal::Refusal;
+use imagefile::FileForm;
 
 // The forms' numbers at the C interface.
+// Stays: no plainer: an enum of these numbers would be a twin of FileForm, whose case holds a place and a length.
 const TEXT: u32 = 1;
 
 const BIT: u32 = 2;
@@ -12,8 +14,9 @@ const BIT: u32 = 2;
 const BINARY: u32 = 3;
 
 // A refusal's number and place; or 0, 0, the form, and of a BIT file the image's first byte and its length.
+// Stays: the C interface gets an answer as a struct of numbers, with a refusal's number and place in front.
 #[repr(C)]
-#[derive(Drop)]
+#[derive(Default, Drop)]
 pub struct TealsettleForm {
     pub number: u32,
     pub place: usize,
@@ -22,37 +25,31 @@ pub struct TealsettleForm {
     pub length: usize,
 }
 
-pub fn form_result(answer: FormAnswer) -> TealsettleForm
-    ensures { result ≡ form_result answer }
-{
-    match answer {
-        FormAnswer::Text => TealsettleForm {
-            number: 0,
-            place: 0,
-            form: TEXT,
-            first: 0,
-            length: 0,
-        },
-        FormAnswer::Bit { first, length } => TealsettleForm {
-            number: 0,
-            place: 0,
-            form: BIT,
-            first,
-            length,
-        },
-        FormAnswer::Binary => TealsettleForm {
-            number: 0,
-            place: 0,
-            form: BINARY,
-            first: 0,
-            length: 0,
-        },
-        FormAnswer::Refused { number, place } => TealsettleForm {
-            number,
-            place,
-            form: 0,
-            first: 0,
-            length: 0,
-        },
+impl From<Result<FileForm, Refusal>> for TealsettleForm {
+    ghost from_gives = { λ answer given. given ≡ form_result answer };
+
+    #[tactic(auto, unfolding(crate::specs::Form::form_result, base::specs::Answer::in_numbers))]
+    fn from(answer: Result<FileForm, Refusal>) -> TealsettleForm {
+        match answer {
+            Ok(FileForm::Text) => TealsettleForm {
+                form: TEXT,
+                ..TealsettleForm::default()
+            },
+            Ok(FileForm::Bit { first, length }) => TealsettleForm {
+                form: BIT,
+                first,
+                length,
+                ..TealsettleForm::default()
+            },
+            Ok(FileForm::Binary) => TealsettleForm {
+                form: BINARY,
+                ..TealsettleForm::default()
+            },
+            Err(refusal) => TealsettleForm {
+                number: refusal.reason.number(),
+                place: refusal.place,
+                ..TealsettleForm::default()
+            },
+        }
     }
 }

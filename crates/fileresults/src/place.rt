@@ -2,11 +2,12 @@
 ghost use Rattle.std.specs.Prelude.{◌≡◌};
 ghost use Rattle.fileresults.specs.Place.{place_result};
 
-use chip::update_place::PlaceAnswer;
+use base::refusal::Refusal;
 
 // A refusal's number and place; or 0, 0, and whether segment 1 names an update place, and which.
+// Stays: the C interface gets an answer as a struct of numbers, with a refusal's number and place in front.
 #[repr(C)]
-#[derive(Drop)]
+#[derive(Default, Drop)]
 pub struct TealsettlePlace {
     pub number: u32,
     pub place: usize,
@@ -14,27 +15,23 @@ pub struct TealsettlePlace {
     pub update: usize,
 }
 
-pub fn place_result(answer: PlaceAnswer) -> TealsettlePlace
-    ensures { result ≡ place_result answer }
-{
-    match answer {
-        PlaceAnswer::Found { update_place } => TealsettlePlace {
-            number: 0,
-            place: 0,
-            found: 1,
-            update: update_place,
-        },
-        PlaceAnswer::Nothing => TealsettlePlace {
-            number: 0,
-            place: 0,
-            found: 0,
-            update: 0,
-        },
-        PlaceAnswer::Refused { number, place } => TealsettlePlace {
-            number,
-            place,
-            found: 0,
-            update: 0,
-        },
+impl From<Result<Option<usize>, Refusal>> for TealsettlePlace {
+    ghost from_gives = { λ answer given. given ≡ place_result answer };
+
+    #[tactic(auto, unfolding(crate::specs::Place::place_result, base::specs::Answer::in_numbers))]
+    fn from(answer: Result<Option<usize>, Refusal>) -> TealsettlePlace {
+        match answer {
+            Ok(Some(update)) => TealsettlePlace {
+                found: 1,
+                update,
+                ..TealsettlePlace::default()
+            },
+            Ok(None) => TealsettlePlace::default(),
+            Err(refusal) => TealsettlePlace {
+                number: refusal.reason.number(),
+                place: refusal.place,
+                ..TealsettlePlace::default()
+            },
+        }
     }
 }

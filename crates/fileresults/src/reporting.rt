@@ -2,30 +2,33 @@
 ghost use Rattle.std.specs.Prelude.{◌≡◌};
 ghost use Rattle.fileresults.specs.Reporting.{report_result};
 
-use report::refusal::ReportAnswer;
+use base::refusal::Refusal;
 
 // A refusal's number and place, or 0, 0 and how many bytes the report has.
+// Stays: the C interface gets an answer as a struct of numbers, with a refusal's number and place in front.
 #[repr(C)]
-#[derive(Drop)]
+#[derive(Default, Drop)]
 pub struct TealsettleReport {
     pub number: u32,
     pub place: usize,
     pub length: usize,
 }
 
-pub fn report_result(answer: ReportAnswer) -> TealsettleReport
-    ensures { result ≡ report_result answer }
-{
-    match answer {
-        ReportAnswer::Written { length } => TealsettleReport {
-            number: 0,
-            place: 0,
-            length,
-        },
-        ReportAnswer::Refused { number, place } => TealsettleReport {
-            number,
-            place,
-            length: 0,
-        },
+impl From<Result<usize, Refusal>> for TealsettleReport {
+    ghost from_gives = { λ answer given. given ≡ report_result answer };
+
+    #[tactic(auto, unfolding(crate::specs::Reporting::report_result, base::specs::Answer::in_numbers))]
+    fn from(answer: Result<usize, Refusal>) -> TealsettleReport {
+        match answer {
+            Ok(length) => TealsettleReport {
+                length,
+                ..TealsettleReport::default()
+            },
+            Err(refusal) => TealsettleReport {
+                number: refusal.reason.number(),
+                place: refusal.place,
+                ..TealsettleReport::default()
+            },
+        }
     }
 }

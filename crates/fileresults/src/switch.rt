@@ -2,35 +2,35 @@
 ghost use Rattle.std.specs.Prelude.{◌≡◌};
 ghost use Rattle.fileresults.specs.Switch.{switch_result};
 
-use chip::switch::SwitchAnswer;
+use base::refusal::Refusal;
+use chip::switch::Switch;
 
 // A refusal's number and place; or 0, 0, and whether the switch is ON.
+// Stays: the C interface gets an answer as a struct of numbers, with a refusal's number and place in front.
 #[repr(C)]
-#[derive(Drop)]
+#[derive(Default, Drop)]
 pub struct TealsettleSwitch {
     pub number: u32,
     pub place: usize,
     pub on: u32,
 }
 
-pub fn switch_result(answer: SwitchAnswer) -> TealsettleSwitch
-    ensures { result ≡ switch_result answer }
-{
-    match answer {
-        SwitchAnswer::On => TealsettleSwitch {
-            number: 0,
-            place: 0,
-            on: 1,
-        },
-        SwitchAnswer::Off => TealsettleSwitch {
-            number: 0,
-            place: 0,
-            on: 0,
-        },
-        SwitchAnswer::Refused { number, place } => TealsettleSwitch {
-            number,
-            place,
-            on: 0,
-        },
+impl From<Result<Switch, Refusal>> for TealsettleSwitch {
+    ghost from_gives = { λ answer given. given ≡ switch_result answer };
+
+    #[tactic(auto, unfolding(crate::specs::Switch::switch_result, base::specs::Answer::in_numbers))]
+    fn from(answer: Result<Switch, Refusal>) -> TealsettleSwitch {
+        match answer {
+            Ok(Switch::On) => TealsettleSwitch {
+                on: 1,
+                ..TealsettleSwitch::default()
+            },
+            Ok(Switch::Off) => TealsettleSwitch::default(),
+            Err(refusal) => TealsettleSwitch {
+                number: refusal.reason.number(),
+                place: refusal.place,
+                ..TealsettleSwitch::default()
+            },
+        }
     }
 }
