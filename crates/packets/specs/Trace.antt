@@ -2,11 +2,10 @@
 use Rattle.std.specs.Prelude.{ℕ, zero, suc, ◌+◌, ◌%◌, ◌^◌, true, false, List, [], ◌∷◌, map, drop, eqb, Option, Some, None, option_map, Result}
 use Rattle.std.proofs.Math.Option as maybe
 use Rattle.std.proofs.Math.Option.{some, none}
-use Rattle.base.specs.Types.{Refusal}
 use Rattle.base.specs.Answer.{Numbered, in_numbers}
 use Rattle.framing.specs.Words.{words}
 use Rattle.packets.specs.Header.{head_of, effect_of, WBSTAR}
-use Rattle.packets.specs.Types.{Header, Nop, Type1, Type2, BadHeader, GoesOn, Desync, EffectIprog, Finish, FinishEnded, FinishIprog, FinishFault, FinishShort, Write}
+use Rattle.packets.specs.Types.{Header, Nop, Type1, Type2, BadHeader, GoesOn, Desync, EffectIprog, Finish, FinishEnded, FinishIprog, FinishFault, FinishShort, Write, Refusal}
 
 -- What the word just before a header allows: a type 1 write header of count 0 opens its register to a type 2 header, every other word opens none.
 pub data Before : Type 0 where

@@ -1,11 +1,10 @@
 -- A cursor over the writes: what it still has to give, and its next step.
 use Rattle.std.specs.Prelude.{ℕ, zero, suc, ◌+◌, List, [], ◌∷◌, drop, take, Option, Some, None, Result}
-use Rattle.base.specs.Types.{Refusal}
 use Rattle.base.specs.Answer.{Numbered, result, in_numbers}
 use Rattle.framing.specs.Words.{words}
 use Rattle.packets.specs.Header.{effect_of}
 use Rattle.packets.specs.Trace.{other, Trace, wrote, desync, iprog, faulty, short, trace, mode_of, list_of}
-use Rattle.writes.specs.Types.{GoesOn, Desync, EffectIprog, Write, Cursor, Step}
+use Rattle.writes.specs.Types.{GoesOn, Desync, EffectIprog, Write, Cursor, Step, Refusal}
 
 -- a cursor before the first of `writes` writes of the packets from a place
 abbrev pub cursor_at : ℕ → ℕ → Cursor
@@ -38,7 +37,10 @@ first_of short remaining = None
 
 -- in numbers: 1, the write's register, word and place, and the cursor after it; 0 where there is none
 unfoldable pub step_numbers : Option Step → Numbered
-step_numbers (Some (record { write = write; cursor = c })) = result (1 ∷ write.register ∷ write.word ∷ write.place ∷ c.at ∷ c.register ∷ c.left ∷ c.remaining ∷ [])
+step_numbers (Some step) =
+    let write = step.write in
+    let c = step.cursor in
+    result (1 ∷ write.register ∷ write.word ∷ write.place ∷ c.at ∷ c.register ∷ c.left ∷ c.remaining ∷ [])
 step_numbers None = result (0 ∷ [])
 
 -- a listing in numbers: its cursor's
