@@ -23,11 +23,9 @@ fn put_hexadecimal(out: &mut [u8], at: usize, count: usize, value: usize)
     ensures { out.new ≡ paste out.old at (hexadecimal count value) count }
 {
     let characters = characters();
-    let mut left = count;
     let mut rest = value;
-    while left > 0 {
-        left -= 1;
-        out[at + left] = characters[rest % 16];
+    for i in (0..count).rev() {
+        out[at + i] = characters[rest % 16];
         rest /= 16;
     }
 }

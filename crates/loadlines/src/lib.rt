@@ -10,7 +10,7 @@ ghost use Rattle.reportlines.specs.Reportlines.{loaded_line, write_lines, end_li
 
 use fields::{decimal_length, put, put_decimal_field, put_hexadecimal_field};
 use reportlines::{WRITE, put_write};
-use writes::cursor::{Cursor, CursorStep};
+use writes::cursor::Cursor;
 use writes::next::{next_of, step_at};
 
 // The length of the first line.
@@ -25,10 +25,7 @@ pub fn has_room(writes: usize, room: usize) -> bool
     ensures { result ≡ leb (14 + 27 * writes + (21 + length (decimal writes))) room }
 {
     let ends = LOADED + END + decimal_length(writes);
-    if room < ends {
-        return false;
-    }
-    writes <= (room - ends) / WRITE
+    ends <= room && writes <= (room - ends) / WRITE
 }
 
 // What loads: golden, or after a jump the update.
@@ -51,20 +48,12 @@ fn put_writes(chip: &[u8], cursor: Cursor, out: &mut [u8], at: usize) -> usize
 {
     let mut next = at;
     let mut here = cursor;
-    loop {
-        let word = next_of(chip, here);
-        let step = step_at(chip, word, here.remaining);
-        match step {
-            CursorStep::Wrote { write, cursor } => {
-                put_write(out, next, write);
-                next += WRITE;
-                here = cursor;
-            }
-            CursorStep::Done => {
-                return next;
-            }
-        }
+    while let Some(step) = step_at(chip, next_of(chip, here), here.remaining) {
+        put_write(out, next, step.write);
+        next += WRITE;
+        here = step.cursor;
     }
+    next
 }
 
 // The place after the last word, and the number of writes; the place after the line.

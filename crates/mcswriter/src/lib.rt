@@ -7,18 +7,11 @@ ghost use Rattle.base.specs.Output.{front_filled};
 ghost use Rattle.canonical.specs.Canonical.{canonical_text, shorter_length, canonical_length};
 ghost use Rattle.mcswriter.specs.Mcswriter.{text_numbers, length_answer, write_answer, write_output, ReadsBack};
 
-use base::refusal;
+use base::refusal::{Reason, Refusal, ask};
 use canonical::{AROUND, PER_RECORD, SEGMENT};
 use kind::layout::image_length_allowed;
 use kind::spi::Spi;
 use recordwriter::part::{put_end, put_part};
-
-// How many bytes the text has, or a refusal that left lent memory as it was.
-#[derive(Drop)]
-pub enum TextAnswer {
-    Text { length: usize },
-    Refused { number: u32, place: usize },
-}
 
 // How long the line of a record shorter than 16 bytes is; 0 where there is none.
 fn shorter_length(count: usize) -> usize
@@ -54,38 +47,24 @@ fn put_text(image: &[u8], out: &mut [u8])
 }
 
 // How long the text of an image of so many bytes is; or refusal 4.
-pub fn text_length(image_length: usize) -> TextAnswer
+pub fn text_length(image_length: usize) -> Result<usize, Refusal>
     ensures { Gives text_numbers result (length_answer image_length) }
 {
-    if !image_length_allowed(Spi::LONGEST, image_length) {
-        return TextAnswer::Refused {
-            number: refusal::BAD_IMAGE_LENGTH,
-            place: 0,
-        };
-    }
-    TextAnswer::Text {
-        length: length_of(image_length),
-    }
+    ask(
+        image_length_allowed(Spi::LONGEST, image_length),
+        Reason::BadImageLength,
+    )?;
+    Ok(length_of(image_length))
 }
 
 // Writes the text of an image to the front of a buffer; or refusal 4 or 19, and the buffer as it was.
-pub fn write(image: &[u8], out: &mut [u8]) -> TextAnswer
+pub fn write(image: &[u8], out: &mut [u8]) -> Result<usize, Refusal>
     ensures answer { Gives text_numbers result (write_answer image.now (length out.old)) }
     ensures output { out.new ≡ write_output image.now out.old }
     ensures back { ReadsBack image.now result out.new }
 {
-    let sized = text_length(image.len());
-    match sized {
-        TextAnswer::Text { length } => {
-            if out.len() < length {
-                return TextAnswer::Refused {
-                    number: refusal::NO_ROOM,
-                    place: 0,
-                };
-            }
-            put_text(image, out);
-            TextAnswer::Text { length }
-        }
-        TextAnswer::Refused { number, place } => TextAnswer::Refused { number, place },
-    }
+    let length = text_length(image.len())?;
+    ask(length <= out.len(), Reason::NoRoom)?;
+    put_text(image, out);
+    Ok(length)
 }

@@ -29,10 +29,8 @@ pub fn put_pairs(bytes: &[u8], from: usize, count: usize, out: &mut [u8], at: us
     requires { (from + count ≤ length bytes.now) × (at + 2 * count ≤ length out.old) }
     ensures { out.new ≡ paste out.old at (hex (take count (drop from bytes.now))) (2 * count) }
 {
-    let mut i = 0;
-    while i < count {
+    for i in 0..count {
         put_pair(out, at + 2 * i, bytes[from + i]);
-        i += 1;
     }
 }
 
@@ -43,10 +41,8 @@ pub fn byte_sum(bytes: &[u8], from: usize, count: usize) -> u32
     ensures range { result ≤ 255 * count }
 {
     let mut sum = 0;
-    let mut i = 0;
-    while i < count {
-        sum += bytes[from + i] as u32;
-        i += 1;
+    for i in 0..count {
+        sum += u32::from(bytes[from + i]);
     }
     sum
 }

@@ -6,7 +6,6 @@ ghost use Rattle.mcs.specs.Text.{file_text};
 ghost use Rattle.canonical.specs.Canonical.{upper_lines, part_text, end_line};
 
 use crate::record::put_record;
-use base::min;
 use canonical::{PER_RECORD, SEGMENT};
 
 // Where `place` in the image is a multiple of 65,536, its upper half's line at `at`; the place after it.
@@ -18,9 +17,8 @@ fn put_upper(out: &mut [u8], at: usize, place: usize) -> usize
     if place % SEGMENT != 0 {
         return at;
     }
-    let half = place / SEGMENT;
-    let bytes = [(half / 256) as u8, (half % 256) as u8];
-    put_record(out, at, 0x04, 0, &bytes, 0, 2)
+    let half = (place / SEGMENT) as u16;
+    put_record(out, at, 0x04, 0, &half.to_be_bytes(), 0, 2)
 }
 
 // The lines of a part that begins at `start` in the image, a multiple of 16, at `to`; the place after them.
@@ -32,9 +30,10 @@ pub fn put_part(part: &[u8], start: usize, out: &mut [u8], to: usize) -> usize
     let mut done = 0;
     let mut at = to;
     while done < part.len() {
-        let count = min(PER_RECORD, part.len() - done);
+        let count = PER_RECORD.min(part.len() - done);
         at = put_upper(out, at, start + done);
-        at = put_record(out, at, 0x00, (start + done) % SEGMENT, part, done, count);
+        let address = ((start + done) % SEGMENT) as u16;
+        at = put_record(out, at, 0x00, address, part, done, count);
         done += count;
     }
     at

@@ -9,23 +9,25 @@ use mcsline::line::{COLON, LF};
 use pairwriter::{byte_sum, put_pair, put_pairs};
 
 // The colon and the pairs before the data, at `at`: 9 characters.
-fn put_header(out: &mut [u8], at: usize, kind: u8, address: usize, count: usize)
-    requires { (at + 9 ≤ length out.old) × (address < 65536) × (count ≤ 255) }
+fn put_header(out: &mut [u8], at: usize, kind: u8, address: u16, count: usize)
+    requires { (at + 9 ≤ length out.old) × (count ≤ 255) }
     ensures { out.new ≡ paste out.old at (colon ∷ hex (header kind address count)) 9 }
 {
+    let [high, low] = address.to_be_bytes();
     out[at] = COLON;
     put_pair(out, at + 1, count as u8);
-    put_pair(out, at + 3, (address / 256) as u8);
-    put_pair(out, at + 5, (address % 256) as u8);
+    put_pair(out, at + 3, high);
+    put_pair(out, at + 5, low);
     put_pair(out, at + 7, kind);
 }
 
 // The sum of a record: what its pairs lack of a multiple of 256.
-fn sum_of(kind: u8, address: usize, bytes: &[u8], from: usize, count: usize) -> u8
-    requires { (from + count ≤ length bytes.now) × (address < 65536) × (count ≤ 255) }
+fn sum_of(kind: u8, address: u16, bytes: &[u8], from: usize, count: usize) -> u8
+    requires { (from + count ≤ length bytes.now) × (count ≤ 255) }
     ensures { result ≡ checksum (body kind address (take count (drop from bytes.now))) }
 {
-    let header = (count + address / 256 + address % 256) as u32 + kind as u32;
+    let [high, low] = address.to_be_bytes();
+    let header = count as u32 + u32::from(high) + u32::from(low) + u32::from(kind);
     let total = header + byte_sum(bytes, from, count);
     ((256 - total % 256) % 256) as u8
 }
@@ -35,12 +37,12 @@ pub fn put_record(
     out: &mut [u8],
     at: usize,
     kind: u8,
-    address: usize,
+    address: u16,
     bytes: &[u8],
     from: usize,
     count: usize,
 ) -> usize
-    requires { (from + count ≤ length bytes.now) × (address < 65536) × (count ≤ 255) × (at + (2 * count + 12) ≤ length out.old) }
+    requires { (from + count ≤ length bytes.now) × (count ≤ 255) × (at + (2 * count + 12) ≤ length out.old) }
     ensures place { result ≡ at + (2 * count + 12) }
     ensures output { out.new ≡ paste out.old at (line_of kind address (take count (drop from bytes.now))) (2 * count + 12) }
 {

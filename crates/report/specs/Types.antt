@@ -1,10 +1,7 @@
 -- The types of the code that this crate's definitions and proofs name, with their cases; each has one name in the whole tree.
 pub use Rattle.packets.specs.declared.trace.Write.{Write}
 pub use Rattle.writes.specs.declared.cursor.Cursor.{Cursor}
-pub use Rattle.writes.specs.declared.cursor.Listing.TheVariants.{Open as ListingOpen, Refused as ListingRefused}
 pub use Rattle.configreader.specs.declared.Outcome.{Outcome}
 pub use Rattle.configreader.specs.declared.Outcome.TheVariants.{Loaded, Iprog as OutcomeIprog, Stuck}
-pub use Rattle.bootreader.specs.declared.boot.BootAnswer.{BootAnswer}
-pub use Rattle.bootreader.specs.declared.boot.BootAnswer.TheVariants.{Loaded as BootLoaded, Stuck as BootStuck, Refused as BootRefused}
-pub use Rattle.report.specs.declared.refusal.ReportAnswer.{ReportAnswer}
-pub use Rattle.report.specs.declared.refusal.ReportAnswer.TheVariants.{Refused as ReportRefused, Written}
+pub use Rattle.bootreader.specs.declared.boot.Boot.{Boot}
+pub use Rattle.bootreader.specs.declared.boot.Boot.TheVariants.{Loaded as BootLoaded, Stuck as BootStuck}

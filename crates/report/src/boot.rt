@@ -9,12 +9,11 @@ ghost use Rattle.report.specs.Refusal.{report_numbers, written};
 ghost use Rattle.base.specs.Output.{front_filled};
 ghost use Rattle.report.specs.Boot.{chip_answer, chip_output};
 
-use crate::refusal::ReportAnswer;
-use base::refusal;
+use base::refusal::{Reason, Refusal, ask};
 use bootreader::boot;
-use bootreader::boot::BootAnswer;
+use bootreader::boot::Boot;
 use loadlines::{has_room, put_report};
-use reportlines::put_stuck;
+use reportlines::{STUCK, put_stuck};
 use writes::cursor::Cursor;
 
 // The report of a chip that loads. The boot answer says where its writes begin, so the chip is not read again for them.
@@ -25,53 +24,38 @@ fn report_loaded(
     end: usize,
     writes: usize,
     jumped: bool,
-) -> ReportAnswer
-    requires { BootLoaded sync end writes jumped ≡ boot_answer spi chip.now }
+) -> Result<usize, Refusal>
+    requires { Ok (BootLoaded sync end writes jumped) ≡ boot_answer spi chip.now }
     ensures value { result ≡ chip_answer spi chip.now (length out.old) }
     ensures out_after { out.new ≡ chip_output spi chip.now out.old }
 {
-    if !has_room(writes, out.len()) {
-        return ReportAnswer::Refused {
-            number: refusal::NO_ROOM,
-            place: 0,
-        };
-    }
+    ask(has_room(writes, out.len()), Reason::NoRoom)?;
     let cursor = Cursor::new(sync + 4, writes);
-    let length = put_report(chip, cursor, out, jumped, end, writes);
-    ReportAnswer::Written { length }
+    Ok(put_report(chip, cursor, out, jumped, end, writes))
 }
 
 // The report of a chip that is stuck.
-fn report_stuck(place: usize, out: &mut [u8]) -> ReportAnswer
+fn report_stuck(place: usize, out: &mut [u8]) -> Result<usize, Refusal>
     ensures value { result ≡ written (stuck_line place) (length out.old) }
     ensures out_after { out.new ≡ front_filled (stuck_line place) out.old }
 {
-    if out.len() < reportlines::STUCK {
-        return ReportAnswer::Refused {
-            number: refusal::NO_ROOM,
-            place: 0,
-        };
-    }
+    ask(STUCK <= out.len(), Reason::NoRoom)?;
     put_stuck(out, 0, place);
-    ReportAnswer::Written {
-        length: reportlines::STUCK,
-    }
+    Ok(STUCK)
 }
 
 // The report of a chip's bytes at the front of a buffer: how long it is; or refusal 1 or 19, and the buffer as it was.
-pub fn report(chip: &[u8], out: &mut [u8]) -> ReportAnswer
+pub fn report(chip: &[u8], out: &mut [u8]) -> Result<usize, Refusal>
     ensures answer { Gives report_numbers result (chip_answer spi chip.now (length out.old)) }
     ensures output { out.new ≡ chip_output spi chip.now out.old }
 {
-    let booted = boot::answer(chip);
-    match booted {
-        BootAnswer::Loaded {
+    match boot::answer(chip)? {
+        Boot::Loaded {
             sync,
             end,
             writes,
             jumped,
         } => report_loaded(chip, out, sync, end, writes, jumped),
-        BootAnswer::Stuck { place } => report_stuck(place, out),
-        BootAnswer::Refused { number, place } => ReportAnswer::Refused { number, place },
+        Boot::Stuck { place } => report_stuck(place, out),
     }
 }
