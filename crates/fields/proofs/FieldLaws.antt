@@ -22,9 +22,9 @@ length_hexadecimal (suc count) n =
     omega (arith, length-append (hexadecimal count (n / 16)) (get_or digits (n % 16) 0 ∷ []))
 
 -- Its last digit stands after those of the number's sixteenth.
-pub hexadecimal_step : (count n : ℕ) → (count ≡ 0 → ⊥) → hexadecimal count n ≡ hexadecimal (count - 1) (n / 16) ++ get_or digits (n % 16) 0 ∷ []
+pub hexadecimal_step : (count n : ℕ) → 0 < count → hexadecimal count n ≡ hexadecimal (count - 1) (n / 16) ++ get_or digits (n % 16) 0 ∷ []
 unfolding hexadecimal
-hexadecimal_step zero n h = absurd (h refl)
+hexadecimal_step zero n h = absurd (omega arith)
 hexadecimal_step (suc count) n h = let e : count ≡ suc count - 1 = omega arith in ap (λ (k : ℕ). hexadecimal k (n / 16) ++ get_or digits (n % 16) 0 ∷ []) e
 
 -- A number below ten is its digit,
@@ -74,12 +74,13 @@ pub length_word : (n : ℕ) → n < 2 ^ 64 → length (decimal n) ≤ 20
 length_word n h = length_below 19 n (let b : 2 ^ 64 ≤ 10 ^ 20 = lit≤ tt in omega arith)
 
 -- The last hexadecimal digit is stored before the others.
-pub digit_behind : (d : List ℕ) (at count n : ℕ) → (count ≡ 0 → ⊥) → at + count ≤ length d →
-    paste (set d (at + (count - 1)) (get_or digits (n % 16) 0)) at (hexadecimal (count - 1) (n / 16)) (count - 1) ≡ paste d at (hexadecimal count n) count
-digit_behind d at count n h room =
+pub digit_behind : (d characters : List ℕ) (at count n : ℕ) → characters ≡ digits → 0 < count → at + count ≤ length d →
+    paste (set d (at + (count - 1)) (get_or characters (n % 16) 0)) at (hexadecimal (count - 1) (n / 16)) (count - 1) ≡ paste d at (hexadecimal count n) count
+digit_behind d characters at count n same some room =
     let one : count - 1 + 1 ≡ count = omega arith in
-    put_behind d at (hexadecimal (count - 1) (n / 16)) (count - 1) (get_or digits (n % 16) 0) (length_hexadecimal (count - 1) (n / 16)) (omega arith)
-    ∙ ap₂ (λ (s : List ℕ) (k : ℕ). paste d at s k) (sym (hexadecimal_step count n h)) one
+    ap (λ (l : List ℕ). paste (set d (at + (count - 1)) (get_or l (n % 16) 0)) at (hexadecimal (count - 1) (n / 16)) (count - 1)) same
+    ∙ put_behind d at (hexadecimal (count - 1) (n / 16)) (count - 1) (get_or digits (n % 16) 0) (length_hexadecimal (count - 1) (n / 16)) (omega arith)
+    ∙ ap₂ (λ (s : List ℕ) (k : ℕ). paste d at s k) (sym (hexadecimal_step count n some)) one
 
 -- A decimal digit is stored alone.
 pub put_only : (d : List ℕ) (at n : ℕ) → n < 10 → at + length (decimal n) ≤ length d → set d at (48 + n) ≡ paste d at (decimal n) (length (decimal n))

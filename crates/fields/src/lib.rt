@@ -18,6 +18,7 @@ pub fn put(out: &mut [u8], at: usize, text: &[u8])
 }
 
 // So many hexadecimal digits of a number, at `at`, from the last to the first.
+#[tactic(auto, using(crate::proofs::FieldLaws::digit_behind))]
 fn put_hexadecimal(out: &mut [u8], at: usize, count: usize, value: usize)
     requires { at + count ≤ length out.old }
     ensures { out.new ≡ paste out.old at (hexadecimal count value) count }
