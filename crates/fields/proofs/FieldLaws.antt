@@ -73,6 +73,10 @@ length_below (suc k) n h = go (ltb n 10) refl (length_below k (n / 10))
 pub length_word : (n : ℕ) → n < 2 ^ 64 → length (decimal n) ≤ 20
 length_word n h = length_below 19 n (let b : 2 ^ 64 ≤ 10 ^ 20 = lit≤ tt in omega arith)
 
+-- Its tenth has one less.
+pub length_tenth : (n : ℕ) → 10 ≤ n → n < 2 ^ 64 → length (decimal (n / 10)) + 1 ≤ 20
+length_tenth n more h = omega (arith, length_step n more, length_word n h)
+
 -- The last hexadecimal digit is stored before the others.
 pub digit_behind : (d characters : List ℕ) (at count n : ℕ) → characters ≡ digits → 0 < count → at + count ≤ length d →
     paste (set d (at + (count - 1)) (get_or characters (n % 16) 0)) at (hexadecimal (count - 1) (n / 16)) (count - 1) ≡ paste d at (hexadecimal count n) count

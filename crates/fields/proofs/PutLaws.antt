@@ -28,6 +28,14 @@ pub paste_one : (d : List ℕ) (at x : ℕ) → at < length d → set d at x ≡
 paste_one d at x h =
     set_split d at x h ∙ sym (append_snoc (take at d) x (drop (at + 1) d) ∙ ap (λ (k : ℕ). take at d ++ x ∷ drop k d) (add-one at))
 
+-- A byte that is stored after a text that was put: the two of them in one.
+pub paste_byte : (d : List ℕ) (at : ℕ) (s : List ℕ) (m x : ℕ) (mid : List ℕ) (next : ℕ) → mid ≡ paste d at s m → next ≡ at + m → length s ≡ m → at + (m + 1) ≤ length d →
+    set mid next x ≡ paste d at (s ++ x ∷ []) (m + 1)
+paste_byte d at s m x mid next put here long room =
+    ap₂ (λ (l : List ℕ) (k : ℕ). set l k x) put here
+    ∙ paste_one (paste d at s m) (at + m) x (omega (arith, length-paste d at s m (omega arith) (omega arith)))
+    ∙ paste_paste d at s m (x ∷ []) 1 long refl (omega arith)
+
 -- A byte that is stored where a text will end: the two of them in one.
 pub put_behind : (d : List ℕ) (at : ℕ) (s : List ℕ) (m x : ℕ) → length s ≡ m → at + m < length d → paste (set d (at + m) x) at s m ≡ paste d at (s ++ x ∷ []) (m + 1)
 put_behind d at s m x long room =

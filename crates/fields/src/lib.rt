@@ -10,6 +10,7 @@ ghost use Rattle.digits.specs.Digit.{hexadecimal};
 use digits::digit::characters;
 
 // Copies a text to `at`.
+#[tactic(auto, using(crate::proofs::PutLaws::paste_front))]
 pub fn put(out: &mut [u8], at: usize, text: &[u8])
     requires { at + length text.now ≤ length out.old }
     ensures { out.new ≡ paste out.old at text.now (length text.now) }
@@ -32,6 +33,7 @@ fn put_hexadecimal(out: &mut [u8], at: usize, count: usize, value: usize)
 }
 
 // So many hexadecimal digits of a number, at `at`, and the byte after them.
+#[tactic(auto, using(crate::proofs::PutLaws::paste_byte, crate::proofs::FieldLaws::length_hexadecimal))]
 pub fn put_hexadecimal_field(out: &mut [u8], at: usize, count: usize, value: usize, after: u8)
     requires { at + (count + 1) ≤ length out.old }
     ensures { out.new ≡ paste out.old at (hexadecimal count value ++ after ∷ []) (count + 1) }
@@ -41,6 +43,7 @@ pub fn put_hexadecimal_field(out: &mut [u8], at: usize, count: usize, value: usi
 }
 
 // How many digits a number has in decimal.
+#[tactic(auto, using(crate::proofs::FieldLaws::length_small, crate::proofs::FieldLaws::length_step, crate::proofs::FieldLaws::length_tenth))]
 pub fn decimal_length(value: usize) -> usize
     ensures value { result ≡ length (decimal value) }
     ensures upper_bound { result ≤ 20 }
@@ -53,6 +56,7 @@ pub fn decimal_length(value: usize) -> usize
 
 // A number in decimal, at `at`; the place after it. A number's digits come from its last to its first, and how many there
 // are is not known before: so the function calls itself for those before the last, 20 calls deep at most.
+#[tactic(auto, using(crate::proofs::FieldLaws::length_small, crate::proofs::FieldLaws::length_step, crate::proofs::FieldLaws::put_only, crate::proofs::FieldLaws::put_last))]
 fn put_decimal(out: &mut [u8], at: usize, value: usize) -> usize
     requires { at + length (decimal value) ≤ length out.old }
     ensures value { result ≡ at + length (decimal value) }
@@ -68,6 +72,7 @@ fn put_decimal(out: &mut [u8], at: usize, value: usize) -> usize
 }
 
 // A number in decimal, at `at`, and the byte after it; the place after both.
+#[tactic(auto, using(crate::proofs::PutLaws::paste_byte))]
 pub fn put_decimal_field(out: &mut [u8], at: usize, value: usize, after: u8) -> usize
     requires { at + (length (decimal value) + 1) ≤ length out.old }
     ensures value { result ≡ at + (length (decimal value) + 1) }
