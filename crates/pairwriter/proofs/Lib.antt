@@ -1,1 +1,2 @@
+pub mod PairLaws
 pub mod SpanLaws
