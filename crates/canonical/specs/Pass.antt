@@ -35,7 +35,7 @@ unfoldable pub lines_pass : List (List ℕ) → Bool → ℕ → Bool
 lines_pass [] upper next = false
 lines_pass (line ∷ lines) upper next =
     by_parsed (parsed line)
-    (λ number. false)
+    (λ reason. false)
     (λ address bytes. ask (data_fits upper next address (length bytes) (length line)) false (lines_pass lines false (next + length bytes)))
     (λ half. ask (upper_fits upper next half (length line)) false (lines_pass lines true next))
     (ask (is_empty lines) false (end_fits upper next (length line)))

@@ -2,13 +2,13 @@
 // the text (`Canonical`), the rule that it keeps (`Rule`) and the test for it (`Test`), and states what is proved of them; the
 // code that writes and tests it is in the crates above.
 
-// A data record has so many bytes, and the last of an image what is left.
 #![tactic(auto)]
 
-pub const PER_RECORD: usize = 16;
-
 // A type 04 record comes before the data at each multiple of this.
-pub const SEGMENT: usize = 65_536;
+pub use mcs::reader::SEGMENT;
+
+// A data record has so many bytes, and the last of an image what is left.
+pub const PER_RECORD: usize = 16;
 
 // A line has so many characters beside two for each data byte, if it ends in LF.
 pub const AROUND: usize = 12;

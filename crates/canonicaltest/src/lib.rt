@@ -2,15 +2,14 @@
 #![tactic(auto)]
 
 ghost use Rattle.std.specs.Prelude.{◌≡◌};
-ghost use Rattle.digits.specs.Table.{DigitTable};
 ghost use Rattle.canonical.specs.Pass.{data_fits, upper_fits, end_fits, text_passes};
 ghost use Rattle.canonical.specs.Test.{is_canonical};
 
 use canonical::{AROUND, PER_RECORD, SEGMENT};
-use digits::table::digit_values;
+use digits::table::Digits;
 use kind::layout::image_length_allowed;
 use kind::spi::Spi;
-use mcsline::line::{LineAnswer, parse};
+use mcsline::line::{Line, parse};
 
 // Is this the data record that comes next? `next` data bytes came before it, and `upper` says whether the line before is of
 // type 04. The line is `long` characters long.
@@ -58,18 +57,20 @@ fn end_fits(upper: bool, next: usize, long: usize) -> bool
     image_length_allowed(Spi::LONGEST, next)
 }
 
-// The pass, given the table of digits.
-fn passes(values: &[u8], text: &[u8]) -> bool
-    requires { DigitTable values.now }
-    ensures { result ≡ text_passes text.now }
+// Is this the canonical text of an image? It is asked of any bytes.
+pub fn is_canonical(text: &[u8]) -> bool
+    ensures { result ≡ is_canonical text.now }
 {
+    let digits = Digits::new();
     let mut at = 0;
     let mut next = 0;
     let mut upper = false;
     while at < text.len() {
-        let read = parse(values, text, at);
-        match read {
-            LineAnswer::Data {
+        let Ok(line) = parse(&digits, text, at) else {
+            return false;
+        };
+        match line {
+            Line::Data {
                 address,
                 count,
                 end,
@@ -81,31 +82,17 @@ fn passes(values: &[u8], text: &[u8]) -> bool
                 upper = false;
                 at = end;
             }
-            LineAnswer::ExtendedLinearAddress { half, end } => {
+            Line::ExtendedLinearAddress { half, end } => {
                 if !upper_fits(upper, next, half, end - at) {
                     return false;
                 }
                 upper = true;
                 at = end;
             }
-            LineAnswer::End { end } => {
-                if end < text.len() {
-                    return false;
-                }
-                return end_fits(upper, next, end - at);
-            }
-            LineAnswer::Refused { number: _ } => {
-                return false;
+            Line::End { end } => {
+                return end == text.len() && end_fits(upper, next, end - at);
             }
         }
     }
     false
-}
-
-// Is this the canonical text of an image? It is asked of any bytes.
-pub fn is_canonical(text: &[u8]) -> bool
-    ensures { result ≡ is_canonical text.now }
-{
-    let values = digit_values();
-    passes(&values, text)
 }

@@ -1,6 +1,7 @@
 -- What a text holds. Document 01, "MCS text" and questions 11 and 12.
-use Rattle.std.specs.Prelude.{ℕ, ◌+◌, ◌*◌, Bool, true, false, List, [], ◌∷◌, ◌++◌, eqb, leb, length}
-use Rattle.base.specs.Refusal.{bad_address, bad_end}
+use Rattle.std.specs.Prelude.{ℕ, ◌+◌, ◌*◌, Bool, true, false, List, [], ◌∷◌, ◌++◌, eqb, leb, length, Result, Ok}
+use Rattle.base.specs.Refusal.{refused}
+use Rattle.mcs.specs.Types.{BadAddress, BadEnd, Refusal}
 use Rattle.base.specs.Question.{ask}
 use Rattle.mcsline.specs.Record.{LF}
 use Rattle.mcsline.specs.Line.{parsed, by_parsed}
@@ -24,9 +25,8 @@ unfoldable pub follows : ℕ → ℕ → ℕ → ℕ → Bool
 follows half address next count = ask (eqb (half * 65536 + address) next) false (leb (address + count) 65536)
 
 -- the image that a text holds, or a refusal
-pub data Reading : Type 0 where
-  Holds : (image : List ℕ) → Reading
-  Refused : (number place : ℕ) → Reading
+abbrev pub Reading : Type 0
+Reading = Result (List ℕ) Refusal
 
 -- are there no lines?
 unfoldable pub is_empty : List (List ℕ) → Bool
@@ -35,13 +35,13 @@ is_empty (line ∷ lines) = false
 
 -- Lines in order, from a place on, with the upper half in force and the image so far; the last is the end record, with nothing after it.
 unfoldable pub read_lines : List (List ℕ) → ℕ → ℕ → List ℕ → Reading
-read_lines [] place half image = Refused bad_end place
+read_lines [] place half image = refused BadEnd place
 read_lines (line ∷ lines) place half image =
     by_parsed (parsed line)
-    (λ number. Refused number place)
-    (λ address bytes. ask (follows half address (length image) (length bytes)) (Refused bad_address place) (read_lines lines (place + length line) half (image ++ bytes)))
+    (λ reason. refused reason place)
+    (λ address bytes. ask (follows half address (length image) (length bytes)) (refused BadAddress place) (read_lines lines (place + length line) half (image ++ bytes)))
     (λ upper. read_lines lines (place + length line) upper image)
-    (ask (is_empty lines) (Refused bad_end (place + length line)) (Holds image))
+    (ask (is_empty lines) (refused BadEnd (place + length line)) (Ok image))
 
 abbrev pub read_text : List ℕ → Reading
 read_text text = read_lines (lines_of text) 0 0 []
