@@ -4,7 +4,7 @@
     python3 docs/refusals.py            writes its two parts of include/tealsettle.h anew, then checks
     python3 docs/refusals.py --check    only checks: a line for each problem, and exit status 1 if there is one
 
-crates/base/src/refusal.rt has the names and numbers, docs/REFUSALS.md the words that say what each means. The parts of
+crates/base/src/refusal.rt has the reasons and their numbers, docs/REFUSALS.md the words that say what each means. The parts of
 the header are an enum of the names and a function that gives the words; each stands between two comments.
 
 Checked: the page and crates/base/specs/Refusal.antt have the names and numbers of refusal.rt, in its order; no number
@@ -23,8 +23,8 @@ HEADER = ROOT / 'include' / 'tealsettle.h'
 STOPS = range(10, 13)
 WIDTH = 120
 
-IN_CODE = re.compile(r'^pub const (\w+): u32 = (\d+);$', re.M)
-IN_DEFINITIONS = re.compile(r'^(\w+) = (\d+)$', re.M)
+IN_CODE = re.compile(r'^    (\w+) = (\d+),$', re.M)
+IN_DEFINITIONS = re.compile(r'^number_of (\w+) = (\d+)$', re.M)
 IN_PAGE = re.compile(r'^\| (?P<number>\d+) \| `(?P<name>\w+)` \| (?P<meaning>.+?) \| .+ \|$', re.M)
 
 # The parts of the header: the comment before each, what is written, and the comment after it.
@@ -45,8 +45,8 @@ UPDATES = (
     ('case TEALSETTLE_OTHER_PLACE', "segment 1 of the chip does not name the update place that was given: nothing is written"),
 )
 
-# A bare number: in a struct or a comparison of the code, or behind the name of a refused answer in a definition.
-BARE = re.compile(r'\bnumber: (?!0\b)\d+|\bnumber [!=]= (?!0\b)\d+|Refused [1-9]\d*')
+# A bare number: in a struct or a comparison of the code. In a definition a refused answer takes a reason, so no number can stand there.
+BARE = re.compile(r'\bnumber: (?!0\b)\d+|\bnumber [!=]= (?!0\b)\d+')
 
 
 def read(path):
@@ -63,12 +63,21 @@ def pairs(found):
     return [(name, int(number)) for name, number in found]
 
 
+def snake(name):
+    """The page's and the header's name of a reason: BadChipLength is BAD_CHIP_LENGTH there."""
+    return re.sub(r'(?<!^)([A-Z])', r'_\1', name).upper()
+
+
+def reasons(found):
+    return [(snake(name), number) for name, number in pairs(found)]
+
+
 def code():
-    return pairs(IN_CODE.findall(read(CODE)))
+    return reasons(IN_CODE.findall(read(CODE)))
 
 
 def definitions():
-    return pairs(IN_DEFINITIONS.findall(read(DEFINITIONS)))
+    return reasons(IN_DEFINITIONS.findall(read(DEFINITIONS)))
 
 
 def page():
@@ -131,8 +140,7 @@ def check_numbers(names):
 
 
 def check_definitions(names):
-    # BAD_CHIP_LENGTH is bad_chip_length there.
-    yield from check_same(DEFINITIONS, definitions(), [(name.lower(), number) for name, number in names])
+    yield from check_same(DEFINITIONS, definitions(), names)
 
 
 def check_words():
