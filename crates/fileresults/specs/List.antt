@@ -25,22 +25,19 @@ listing_result answer = record {
   cursor = cursor_fields (listing_numbers answer).values;
 }
 
--- `tealsettle_next_write`, of numbers: a step has no refusal of its own, and the kind of chip is asked before it
+-- in numbers: a step's. A step has no refusal of its own: the kind of chip is asked before it.
 unfoldable pub next_numbers : Result (Option Step) Refusal → Numbered
 next_numbers (Ok step) = step_numbers step
 next_numbers (Err r) = refusal (number_of r.reason) r.place
 
-unfoldable pub step_fields : Numbered → TealsettleStep
-step_fields numbers = record {
-  number = numbers.number;
-  place = numbers.place;
-  found = value numbers 0;
-  register_number = value numbers 1;
-  word = value numbers 2;
-  word_place = value numbers 3;
-  cursor = cursor_fields (drop 4 numbers.values);
+-- `tealsettle_next_write`: a write and the cursor after it, or that there is none; or a refusal
+unfoldable pub step_result : Result (Option Step) Refusal → TealsettleStep
+step_result answer = record {
+  number = (next_numbers answer).number;
+  place = (next_numbers answer).place;
+  found = value (next_numbers answer) 0;
+  register_number = value (next_numbers answer) 1;
+  word = value (next_numbers answer) 2;
+  word_place = value (next_numbers answer) 3;
+  cursor = cursor_fields (drop 4 (next_numbers answer).values);
 }
-
--- a write and the cursor after it, or that there is none; or a refusal
-abbrev pub step_result : Result (Option Step) Refusal → TealsettleStep
-step_result answer = step_fields (next_numbers answer)

@@ -74,7 +74,7 @@ impl From<Result<Cursor, Refusal>> for TealsettleListing {
 impl From<Result<Option<Step>, Refusal>> for TealsettleStep {
     ghost from_gives = { λ answer given. given ≡ step_result answer };
 
-    #[tactic(auto, unfolding(crate::specs::List::step_fields, crate::specs::List::next_numbers, writes::specs::Cursor::step_numbers))]
+    #[tactic(auto, unfolding(crate::specs::List::step_result, crate::specs::List::next_numbers, writes::specs::Cursor::step_numbers))]
     fn from(answer: Result<Option<Step>, Refusal>) -> TealsettleStep {
         match answer {
             Ok(Some(Step { write, cursor })) => TealsettleStep {

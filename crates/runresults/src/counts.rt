@@ -2,11 +2,14 @@
 ghost use Rattle.std.specs.Prelude.{◌≡◌};
 ghost use Rattle.runresults.specs.Counts.{total_result, progress_result};
 
-use starts::{ProgressAnswer, TotalAnswer};
+use base::refusal::Refusal;
+use starts::Progress;
+
+// Stays: the C interface gets each answer as a struct of numbers, with a refusal's number and place in front.
 
 // A refusal's number and place, or 0, 0 and how many orders.
 #[repr(C)]
-#[derive(Drop)]
+#[derive(Default, Drop)]
 pub struct TealsettleTotal {
     pub number: u32,
     pub place: usize,
@@ -15,7 +18,7 @@ pub struct TealsettleTotal {
 
 // A refusal's number and place, or 0, 0, the order's number, counted from 1, and how many orders.
 #[repr(C)]
-#[derive(Drop)]
+#[derive(Default, Drop)]
 pub struct TealsettleProgress {
     pub number: u32,
     pub place: usize,
@@ -23,38 +26,41 @@ pub struct TealsettleProgress {
     pub orders: usize,
 }
 
-pub fn total_result(answer: TotalAnswer) -> TealsettleTotal
-    ensures { result ≡ total_result answer }
-{
-    match answer {
-        TotalAnswer::Total { orders } => TealsettleTotal {
-            number: 0,
-            place: 0,
-            orders,
-        },
-        TotalAnswer::Refused { number, place } => TealsettleTotal {
-            number,
-            place,
-            orders: 0,
-        },
+impl From<Result<usize, Refusal>> for TealsettleTotal {
+    ghost from_gives = { λ answer given. given ≡ total_result answer };
+
+    #[tactic(auto, unfolding(crate::specs::Counts::total_result, base::specs::Answer::in_numbers))]
+    fn from(answer: Result<usize, Refusal>) -> TealsettleTotal {
+        match answer {
+            Ok(orders) => TealsettleTotal {
+                orders,
+                ..TealsettleTotal::default()
+            },
+            Err(refusal) => TealsettleTotal {
+                number: refusal.reason.number(),
+                place: refusal.place,
+                ..TealsettleTotal::default()
+            },
+        }
     }
 }
 
-pub fn progress_result(answer: ProgressAnswer) -> TealsettleProgress
-    ensures { result ≡ progress_result answer }
-{
-    match answer {
-        ProgressAnswer::At { order, orders } => TealsettleProgress {
-            number: 0,
-            place: 0,
-            order,
-            orders,
-        },
-        ProgressAnswer::Refused { number, place } => TealsettleProgress {
-            number,
-            place,
-            order: 0,
-            orders: 0,
-        },
+impl From<Result<Progress, Refusal>> for TealsettleProgress {
+    ghost from_gives = { λ answer given. given ≡ progress_result answer };
+
+    #[tactic(auto, unfolding(crate::specs::Counts::progress_result, base::specs::Answer::in_numbers))]
+    fn from(answer: Result<Progress, Refusal>) -> TealsettleProgress {
+        match answer {
+            Ok(Progress { order, orders }) => TealsettleProgress {
+                order,
+                orders,
+                ..TealsettleProgress::default()
+            },
+            Err(refusal) => TealsettleProgress {
+                number: refusal.reason.number(),
+                place: refusal.place,
+                ..TealsettleProgress::default()
+            },
+        }
     }
 }
