@@ -3,5 +3,3 @@ pub mod Types
 pub mod Run
 pub mod Counts
 pub mod Cut
--- What only the contracts of functions that are no public calls cite. No promise rests on it.
-pub mod Internal

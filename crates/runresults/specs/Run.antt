@@ -1,10 +1,10 @@
 -- A C host gets an answer's numbers, each in a field: number and place, then the values in the order of the fields. What does not apply is 0. Here for a run.
-use Rattle.std.specs.Prelude.{ℕ, List, get_or, drop}
+use Rattle.std.specs.Prelude.{ℕ, List, get_or, drop, Option, Result}
 use Rattle.base.specs.Answer.{value}
 use Rattle.kind.specs.Layout.{layout_of}
 use Rattle.updater.specs.Run.{finished_numbers, order_numbers, reply_numbers}
 use Rattle.starts.specs.Starts.{start_numbers}
-use Rattle.runresults.specs.Types.{State, OrderAnswer, ReplyAnswer, FinishedAnswer, StartAnswer, TealsettleState, TealsettleStart, TealsettleOrder, TealsettleReply, TealsettleFinished}
+use Rattle.runresults.specs.Types.{Refusal, State, OrderAnswer, Reply, RefusedReply, TealsettleState, TealsettleStart, TealsettleOrder, TealsettleReply, TealsettleFinished}
 
 -- The state that a host's numbers are, and a state's numbers, each in its field.
 abbrev pub state_of : ℕ → ℕ → ℕ → ℕ → ℕ → ℕ → ℕ → State
@@ -22,7 +22,7 @@ state_fields numbers = record {
 }
 
 -- `tealsettle_start`: the first state, or a refusal
-unfoldable pub start_result : StartAnswer → TealsettleStart
+unfoldable pub start_result : Result State Refusal → TealsettleStart
 start_result answer = record {
   number = (start_numbers answer).number;
   place = (start_numbers answer).place;
@@ -41,7 +41,7 @@ order_result answer = record {
 }
 
 -- `tealsettle_reply`: the state handed back; after a stop or a refusal with its number and place
-unfoldable pub reply_result : ReplyAnswer → TealsettleReply
+unfoldable pub reply_result : Result Reply RefusedReply → TealsettleReply
 reply_result answer = record {
   number = (reply_numbers answer).number;
   place = (reply_numbers answer).place;
@@ -50,7 +50,7 @@ reply_result answer = record {
 }
 
 -- `tealsettle_finished`: whether the run has ended, with its outcome; or a refusal
-unfoldable pub finished_result : FinishedAnswer → TealsettleFinished
+unfoldable pub finished_result : Result (Option ℕ) Refusal → TealsettleFinished
 finished_result answer = record {
   number = (finished_numbers answer).number;
   place = (finished_numbers answer).place;

@@ -1,14 +1,10 @@
 -- The types of the code that this crate's definitions and proofs name, with their cases; each has one name in the whole tree.
-pub use Rattle.updater.specs.declared.run.FinishedAnswer.{FinishedAnswer}
+pub use Rattle.base.specs.declared.refusal.Refusal.{Refusal}
 pub use Rattle.updater.specs.declared.run.OrderAnswer.{OrderAnswer}
-pub use Rattle.updater.specs.declared.run.OrderResult.{OrderResult}
-pub use Rattle.updater.specs.declared.run.OrderResult.TheVariants.{Ordered}
-pub use Rattle.updater.specs.declared.run.ReplyAnswer.{ReplyAnswer}
+pub use Rattle.updater.specs.declared.run.RefusedReply.{RefusedReply}
+pub use Rattle.updater.specs.declared.run.Reply.{Reply}
 pub use Rattle.updater.specs.declared.state.State.{State}
-pub use Rattle.starts.specs.declared.StartAnswer.{StartAnswer}
-pub use Rattle.starts.specs.declared.TotalAnswer.{TotalAnswer}
-pub use Rattle.starts.specs.declared.ProgressAnswer.{ProgressAnswer}
-pub use Rattle.bench.specs.declared.BenchAnswer.{BenchAnswer}
+pub use Rattle.starts.specs.declared.RunProgress.{RunProgress}
 pub use Rattle.runresults.specs.declared.counts.TealsettleProgress.{TealsettleProgress}
 pub use Rattle.runresults.specs.declared.counts.TealsettleTotal.{TealsettleTotal}
 pub use Rattle.runresults.specs.declared.cut.TealsettleBench.{TealsettleBench}

@@ -3,7 +3,7 @@ ghost use Rattle.std.specs.Prelude.{◌≡◌};
 ghost use Rattle.runresults.specs.Counts.{total_result, progress_result};
 
 use base::refusal::Refusal;
-use starts::Progress;
+use starts::RunProgress;
 
 // Stays: the C interface gets each answer as a struct of numbers, with a refusal's number and place in front.
 
@@ -45,13 +45,13 @@ impl From<Result<usize, Refusal>> for TealsettleTotal {
     }
 }
 
-impl From<Result<Progress, Refusal>> for TealsettleProgress {
+impl From<Result<RunProgress, Refusal>> for TealsettleProgress {
     ghost from_gives = { λ answer given. given ≡ progress_result answer };
 
     #[tactic(auto, unfolding(crate::specs::Counts::progress_result, base::specs::Answer::in_numbers))]
-    fn from(answer: Result<Progress, Refusal>) -> TealsettleProgress {
+    fn from(answer: Result<RunProgress, Refusal>) -> TealsettleProgress {
         match answer {
-            Ok(Progress { order, orders }) => TealsettleProgress {
+            Ok(RunProgress { order, orders }) => TealsettleProgress {
                 order,
                 orders,
                 ..TealsettleProgress::default()

@@ -1,20 +1,20 @@
 // A run's state and answers as numbers, and a state that a host's numbers are.
-ghost use Rattle.std.specs.Prelude.{ℕ, ◌≡◌, List};
-ghost use Rattle.kind.specs.Spi.{spi};
-ghost use Rattle.updater.specs.Run.{order_refused, order_answer, reply_answer};
-ghost use Rattle.runresults.specs.Run.{state_of, start_result, order_result, reply_result, finished_result};
-ghost use Rattle.runresults.specs.Internal.{state_result, no_state, order_with, order_beside, replied};
-ghost use Rattle.runresults.specs.Types.{Ordered};
+ghost use Rattle.std.specs.Prelude.{◌≡◌};
+ghost use Rattle.updater.specs.State.{state_numbers};
+ghost use Rattle.runresults.specs.Run.{state_of, state_fields, start_result, order_result, reply_result, finished_result};
 
+use base::refusal::Refusal;
 use kind::spi::Spi;
 use orders::Operation;
-use starts::StartAnswer;
-use updater::run::{FinishedAnswer, OrderResult, ReplyAnswer};
+use updater::run::{OrderAnswer, RefusedReply, Reply};
 use updater::state::State;
+
+// Stays: the C interface gets a state and each answer as a struct of numbers, with a refusal's number and place in front of an
+// answer's; and it hands a state in as seven numbers.
 
 // Where a run is.
 #[repr(C)]
-#[derive(Drop)]
+#[derive(Default, Drop)]
 pub struct TealsettleState {
     pub length: usize,
     pub update: usize,
@@ -27,7 +27,7 @@ pub struct TealsettleState {
 
 // A refusal's number and place, or 0, 0 and the first state.
 #[repr(C)]
-#[derive(Drop)]
+#[derive(Default, Drop)]
 pub struct TealsettleStart {
     pub number: u32,
     pub place: usize,
@@ -47,17 +47,8 @@ pub struct TealsettleOrder {
     pub bytes: [u8; 256],
 }
 
-// All of an order but its bytes, which are moved as seldom as can be.
-#[derive(Drop)]
-struct OrderNumbers {
-    number: u32,
-    place: usize,
-    operation: u32,
-    address: usize,
-    length: usize,
-}
-
 // What an order asks for, as a number.
+// Stays: no plainer: an enum of these numbers would be a twin of Operation, whose cases hold a span.
 const ERASE: u32 = 1;
 
 const PROGRAM: u32 = 2;
@@ -66,7 +57,7 @@ const LOOK: u32 = 3;
 
 // The number and place of a refusal or a stop, and the state handed back.
 #[repr(C)]
-#[derive(Drop)]
+#[derive(Default, Drop)]
 pub struct TealsettleReply {
     pub number: u32,
     pub place: usize,
@@ -76,7 +67,7 @@ pub struct TealsettleReply {
 
 // A refusal's number and place; or 0, 0, and whether the run has ended, with which outcome.
 #[repr(C)]
-#[derive(Drop)]
+#[derive(Default, Drop)]
 pub struct TealsettleFinished {
     pub number: u32,
     pub place: usize,
@@ -105,210 +96,131 @@ pub fn state_of(
     }
 }
 
-// A state as numbers.
-pub fn state_result(state: State) -> TealsettleState
-    ensures { result ≡ state_result state }
-{
-    let layout = state.layout;
-    TealsettleState {
-        length: layout.chip_length,
-        update: layout.update_place,
-        area: layout.update_length,
-        image_length: state.image_length,
-        phase: state.phase,
-        index: state.index,
-        outcome: state.outcome,
+impl From<State> for TealsettleState {
+    ghost from_gives = { λ state given. given ≡ state_fields (state_numbers state) };
+
+    fn from(state: State) -> TealsettleState {
+        TealsettleState {
+            length: state.layout.chip_length,
+            update: state.layout.update_place,
+            area: state.layout.update_length,
+            image_length: state.image_length,
+            phase: state.phase,
+            index: state.index,
+            outcome: state.outcome,
+        }
     }
 }
 
-// What stands beside a refusal.
-pub fn no_state() -> TealsettleState
-    ensures { result ≡ no_state }
-{
-    TealsettleState {
-        length: 0,
-        update: 0,
-        area: 0,
-        image_length: 0,
-        phase: 0,
-        index: 0,
-        outcome: 0,
+impl From<Result<State, Refusal>> for TealsettleStart {
+    ghost from_gives = { λ answer given. given ≡ start_result answer };
+
+    #[tactic(auto, unfolding(crate::specs::Run::start_result, base::specs::Answer::in_numbers))]
+    fn from(answer: Result<State, Refusal>) -> TealsettleStart {
+        match answer {
+            Ok(state) => TealsettleStart {
+                state: state.into(),
+                ..TealsettleStart::default()
+            },
+            Err(refusal) => TealsettleStart {
+                number: refusal.reason.number(),
+                place: refusal.place,
+                ..TealsettleStart::default()
+            },
+        }
     }
 }
 
-pub fn start_result(answer: StartAnswer) -> TealsettleStart
-    ensures { result ≡ start_result answer }
-{
-    match answer {
-        StartAnswer::Started { state } => {
-            return TealsettleStart {
+impl From<OrderAnswer> for TealsettleOrder {
+    ghost from_gives = { λ answer given. given ≡ order_result answer };
+
+    #[tactic(auto, unfolding(crate::specs::Run::order_result, updater::specs::Run::order_result_numbers, updater::specs::Run::operation_numbers))]
+    fn from(answer: OrderAnswer) -> TealsettleOrder {
+        let OrderAnswer { result, bytes } = answer;
+        match result {
+            Ok(Operation::Erase { place, length }) => TealsettleOrder {
                 number: 0,
                 place: 0,
-                state: state_result(state),
-            };
+                operation: ERASE,
+                address: place,
+                length,
+                bytes,
+            },
+            Ok(Operation::Program { place, length }) => TealsettleOrder {
+                number: 0,
+                place: 0,
+                operation: PROGRAM,
+                address: place,
+                length,
+                bytes,
+            },
+            Ok(Operation::Look { place, length }) => TealsettleOrder {
+                number: 0,
+                place: 0,
+                operation: LOOK,
+                address: place,
+                length,
+                bytes,
+            },
+            Err(refusal) => TealsettleOrder {
+                number: refusal.reason.number(),
+                place: refusal.place,
+                operation: 0,
+                address: 0,
+                length: 0,
+                bytes,
+            },
         }
-        StartAnswer::Refused { number, place } => {
-            return TealsettleStart {
+    }
+}
+
+impl From<Result<Reply, RefusedReply>> for TealsettleReply {
+    ghost from_gives = { λ answer given. given ≡ reply_result answer };
+
+    #[tactic(auto, unfolding(crate::specs::Run::reply_result, updater::specs::Run::reply_numbers))]
+    fn from(answer: Result<Reply, RefusedReply>) -> TealsettleReply {
+        match answer {
+            Ok(Reply::Next { state }) => TealsettleReply {
+                state: state.into(),
+                ..TealsettleReply::default()
+            },
+            Ok(Reply::Stopped {
                 number,
                 place,
-                state: no_state(),
-            };
+                state,
+            }) => TealsettleReply {
+                number,
+                place,
+                stopped: 1,
+                state: state.into(),
+            },
+            Err(RefusedReply { refusal, state }) => TealsettleReply {
+                number: refusal.reason.number(),
+                place: refusal.place,
+                stopped: 0,
+                state: state.into(),
+            },
         }
     }
 }
 
-// The numbers of an order.
-fn operation_numbers(operation: Operation) -> OrderNumbers
-    ensures { (bytes : List ℕ) → order_with result bytes ≡ order_beside (Ordered operation) bytes }
-{
-    match operation {
-        Operation::Erase { place, length } => OrderNumbers {
-            number: 0,
-            place: 0,
-            operation: ERASE,
-            address: place,
-            length,
-        },
-        Operation::Program { place, length } => OrderNumbers {
-            number: 0,
-            place: 0,
-            operation: PROGRAM,
-            address: place,
-            length,
-        },
-        Operation::Look { place, length } => OrderNumbers {
-            number: 0,
-            place: 0,
-            operation: LOOK,
-            address: place,
-            length,
-        },
-    }
-}
+impl From<Result<Option<u32>, Refusal>> for TealsettleFinished {
+    ghost from_gives = { λ answer given. given ≡ finished_result answer };
 
-// The numbers of an order or a refusal.
-fn order_numbers(asked: OrderResult) -> OrderNumbers
-    ensures { (bytes : List ℕ) → order_with result bytes ≡ order_beside asked bytes }
-{
-    match asked {
-        OrderResult::Ordered { operation } => operation_numbers(operation),
-        OrderResult::Refused { number, place } => OrderNumbers {
-            number,
-            place,
-            operation: 0,
-            address: 0,
-            length: 0,
-        },
-    }
-}
-
-// An order's numbers, and the bytes beside them.
-fn order_result(numbers: OrderNumbers, bytes: [u8; 256]) -> TealsettleOrder
-    ensures { result ≡ order_with numbers bytes }
-{
-    TealsettleOrder {
-        number: numbers.number,
-        place: numbers.place,
-        operation: numbers.operation,
-        address: numbers.address,
-        length: numbers.length,
-        bytes,
-    }
-}
-
-// The order that a state asks for.
-pub fn order_of(state: State, image: &[u8]) -> TealsettleOrder
-    ensures { result ≡ order_result (order_answer spi state image.now) }
-{
-    let answer = state.order(image);
-    let asked = answer.result;
-    let numbers = order_numbers(asked);
-    // The bytes beside anything but a program are FF: written where they go, they need no copy.
-    if numbers.operation != PROGRAM {
-        return order_result(numbers, [0xFF; 256]);
-    }
-    let bytes = answer.bytes;
-    order_result(numbers, bytes)
-}
-
-// An order that is refused with a number.
-pub fn refused_order(number: u32) -> TealsettleOrder
-    ensures { result ≡ order_result (order_refused number) }
-{
-    TealsettleOrder {
-        number,
-        place: 0,
-        operation: 0,
-        address: 0,
-        length: 0,
-        bytes: [0xFF; 256],
-    }
-}
-
-// What a reply came to: number, place, whether the run stopped, and the state handed back.
-pub fn replied(number: u32, place: usize, stopped: u32, state: State) -> TealsettleReply
-    ensures { result ≡ replied number place stopped state }
-{
-    TealsettleReply {
-        number,
-        place,
-        stopped,
-        state: state_result(state),
-    }
-}
-
-fn reply_result(answer: ReplyAnswer) -> TealsettleReply
-    ensures { result ≡ reply_result answer }
-{
-    match answer {
-        ReplyAnswer::Next { state } => {
-            return replied(0, 0, 0, state);
+    #[tactic(auto, unfolding(crate::specs::Run::finished_result, updater::specs::Run::outcome_values, base::specs::Answer::in_numbers))]
+    fn from(answer: Result<Option<u32>, Refusal>) -> TealsettleFinished {
+        match answer {
+            Ok(None) => TealsettleFinished::default(),
+            Ok(Some(outcome)) => TealsettleFinished {
+                ended: 1,
+                outcome,
+                ..TealsettleFinished::default()
+            },
+            Err(refusal) => TealsettleFinished {
+                number: refusal.reason.number(),
+                place: refusal.place,
+                ..TealsettleFinished::default()
+            },
         }
-        ReplyAnswer::Stopped {
-            number,
-            place,
-            state,
-        } => {
-            return replied(number, place, 1, state);
-        }
-        ReplyAnswer::Refused {
-            number,
-            place,
-            state,
-        } => {
-            return replied(number, place, 0, state);
-        }
-    }
-}
-
-// The state after a reply to the order of a state.
-pub fn reply_of(state: State, image: &[u8], reply_kind: u32, bytes: &[u8]) -> TealsettleReply
-    ensures { result ≡ reply_result (reply_answer spi state image.now reply_kind bytes.now) }
-{
-    reply_result(state.reply(image, reply_kind, bytes))
-}
-
-pub fn finished_result(answer: FinishedAnswer) -> TealsettleFinished
-    ensures { result ≡ finished_result answer }
-{
-    match answer {
-        FinishedAnswer::Running => TealsettleFinished {
-            number: 0,
-            place: 0,
-            ended: 0,
-            outcome: 0,
-        },
-        FinishedAnswer::Ended { outcome } => TealsettleFinished {
-            number: 0,
-            place: 0,
-            ended: 1,
-            outcome,
-        },
-        FinishedAnswer::Refused { number, place } => TealsettleFinished {
-            number,
-            place,
-            ended: 0,
-            outcome: 0,
-        },
     }
 }
