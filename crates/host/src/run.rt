@@ -4,17 +4,19 @@ ghost use Rattle.kind.specs.Layout.{layout_of};
 ghost use Rattle.runresults.specs.Run.{state_of};
 ghost use Rattle.host.specs.Run.{start_call, order_call, reply_call, finished_call};
 
-use base::refusal;
+use base::refusal::{Reason, ask};
 use kind::spi::Spi;
 use runresults::run::{
-    TealsettleFinished, TealsettleOrder, TealsettleReply, TealsettleStart, finished_result,
-    order_of, refused_order, replied, reply_of, start_result, state_of,
+    TealsettleFinished, TealsettleOrder, TealsettleReply, TealsettleStart, state_of,
 };
-use starts::{StartAnswer, start};
-use updater::run::FinishedAnswer;
+use starts::start;
+use updater::run::{OrderAnswer, RefusedReply};
+
+// Stays: the C interface names a kind of chip by a number, and hands a layout in as three and a state as seven.
 
 // Starts a run.
 #[unsafe(no_mangle)]
+#[tactic(auto, unfolding(base::specs::Question::ask))]
 pub extern "C" fn tealsettle_start(
     kind: u32,
     length: usize,
@@ -24,18 +26,14 @@ pub extern "C" fn tealsettle_start(
 ) -> TealsettleStart
     ensures { result ≡ start_call kind (layout_of length update area) image.now }
 {
-    let mut answer = StartAnswer::Refused {
-        number: refusal::BAD_CHIP_LENGTH,
-        place: 0,
-    };
-    if Spi::has_number(kind) {
-        answer = start(Spi::layout(length, update, area), image);
-    }
-    start_result(answer)
+    ask(Spi::has_number(kind), Reason::BadChipLength)
+        .and_then(|()| start(Spi::layout(length, update, area), image))
+        .into()
 }
 
 // The order that a state asks for.
 #[unsafe(no_mangle)]
+#[tactic(auto, unfolding(base::specs::Question::ask))]
 pub extern "C" fn tealsettle_order(
     kind: u32,
     length: usize,
@@ -49,17 +47,20 @@ pub extern "C" fn tealsettle_order(
 ) -> TealsettleOrder
     ensures { result ≡ order_call kind (state_of length update area n phase index outcome) image.now }
 {
-    if !Spi::has_number(kind) {
-        return refused_order(refusal::BAD_STATE);
+    if let Err(refusal) = ask(Spi::has_number(kind), Reason::BadState) {
+        return OrderAnswer {
+            result: Err(refusal),
+            bytes: [0xFF; 256],
+        }
+        .into();
     }
-    order_of(
-        state_of(length, update, area, n, phase, index, outcome),
-        image,
-    )
+    let state = state_of(length, update, area, n, phase, index, outcome);
+    state.order(image).into()
 }
 
 // The state after a reply to the order of a state.
 #[unsafe(no_mangle)]
+#[tactic(auto, unfolding(base::specs::Question::ask))]
 pub extern "C" fn tealsettle_reply(
     kind: u32,
     length: usize,
@@ -76,14 +77,15 @@ pub extern "C" fn tealsettle_reply(
     ensures { result ≡ reply_call kind (state_of length update area n phase index outcome) image.now reply_kind bytes.now }
 {
     let state = state_of(length, update, area, n, phase, index, outcome);
-    if !Spi::has_number(kind) {
-        return replied(refusal::BAD_STATE, 0, 0, state);
-    }
-    reply_of(state, image, reply_kind, bytes)
+    ask(Spi::has_number(kind), Reason::BadState)
+        .map_err(|refusal| RefusedReply { refusal, state })
+        .and_then(|()| state.reply(image, reply_kind, bytes))
+        .into()
 }
 
 // Whether a run has ended, and how.
 #[unsafe(no_mangle)]
+#[tactic(auto, unfolding(base::specs::Question::ask))]
 pub extern "C" fn tealsettle_finished(
     kind: u32,
     length: usize,
@@ -96,13 +98,8 @@ pub extern "C" fn tealsettle_finished(
 ) -> TealsettleFinished
     ensures { result ≡ finished_call kind (state_of length update area n phase index outcome) }
 {
-    let mut answer = FinishedAnswer::Refused {
-        number: refusal::BAD_STATE,
-        place: 0,
-    };
-    if Spi::has_number(kind) {
-        let state = state_of(length, update, area, n, phase, index, outcome);
-        answer = state.finished();
-    }
-    finished_result(answer)
+    let state = state_of(length, update, area, n, phase, index, outcome);
+    ask(Spi::has_number(kind), Reason::BadState)
+        .and_then(|()| state.finished())
+        .into()
 }

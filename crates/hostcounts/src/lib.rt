@@ -12,17 +12,20 @@ ghost use Rattle.results.specs.Most.{most_result};
 ghost use Rattle.runresults.specs.Run.{state_of};
 ghost use Rattle.hostcounts.specs.Hostcounts.{total_call, progress_call};
 
-use base::refusal;
+use base::refusal::{Reason, ask};
 use heaviest::most_writes;
 use kind::spi::Spi;
 use outcomes::{TealsettleCounts, after_erase, after_program};
-use results::most::{TealsettleMost, most_result};
-use runresults::counts::{TealsettleProgress, TealsettleTotal, progress_result, total_result};
+use results::most::TealsettleMost;
+use runresults::counts::{TealsettleProgress, TealsettleTotal};
 use runresults::run::state_of;
-use starts::{ProgressAnswer, TotalAnswer, progress, total};
+use starts::{progress, total};
+
+// Stays: the C interface names a kind of chip by a number, and hands a layout in as three and a state as seven.
 
 // How many orders a run has with an image of `n` bytes.
 #[unsafe(no_mangle)]
+#[tactic(auto, unfolding(base::specs::Question::ask))]
 pub extern "C" fn tealsettle_total(
     kind: u32,
     length: usize,
@@ -32,18 +35,14 @@ pub extern "C" fn tealsettle_total(
 ) -> TealsettleTotal
     ensures { result ≡ total_call kind (layout_of length update area) n }
 {
-    let mut answer = TotalAnswer::Refused {
-        number: refusal::BAD_CHIP_LENGTH,
-        place: 0,
-    };
-    if Spi::has_number(kind) {
-        answer = total(Spi::layout(length, update, area), n);
-    }
-    total_result(answer)
+    ask(Spi::has_number(kind), Reason::BadChipLength)
+        .and_then(|()| total(Spi::layout(length, update, area), n))
+        .into()
 }
 
 // The number of the order that a state asks for, counted from 1, and how many its run has.
 #[unsafe(no_mangle)]
+#[tactic(auto, unfolding(base::specs::Question::ask))]
 pub extern "C" fn tealsettle_progress(
     kind: u32,
     length: usize,
@@ -56,14 +55,10 @@ pub extern "C" fn tealsettle_progress(
 ) -> TealsettleProgress
     ensures { result ≡ progress_call kind (state_of length update area n phase index outcome) }
 {
-    let mut answer = ProgressAnswer::Refused {
-        number: refusal::BAD_STATE,
-        place: 0,
-    };
-    if Spi::has_number(kind) {
-        answer = progress(state_of(length, update, area, n, phase, index, outcome));
-    }
-    progress_result(answer)
+    let state = state_of(length, update, area, n, phase, index, outcome);
+    ask(Spi::has_number(kind), Reason::BadState)
+        .and_then(|()| progress(state))
+        .into()
 }
 
 // How many switch words a program can leave, cut inside or called done, and how many of them are ON.
@@ -87,5 +82,5 @@ pub extern "C" fn tealsettle_after_erase(old_word: u32) -> TealsettleCounts
 pub extern "C" fn tealsettle_most_writes(n: usize) -> TealsettleMost
     ensures { result ≡ most_result (most_answer n) }
 {
-    most_result(most_writes(n))
+    most_writes(n).into()
 }

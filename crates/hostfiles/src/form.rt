@@ -3,7 +3,7 @@ ghost use Rattle.std.specs.Prelude.{◌≡◌};
 ghost use Rattle.imagefile.specs.Imagefile.{form_answer};
 ghost use Rattle.fileresults.specs.Form.{form_result};
 
-use fileresults::form::{TealsettleForm, form_result};
+use fileresults::form::TealsettleForm;
 use imagefile::form;
 
 // The form of an image file, told by its bytes.
@@ -11,5 +11,5 @@ use imagefile::form;
 pub extern "C" fn tealsettle_file_form(file: &[u8]) -> TealsettleForm
     ensures { result ≡ form_result (form_answer file.now) }
 {
-    form_result(form(file))
+    form(file).into()
 }

@@ -4,7 +4,7 @@ ghost use Rattle.heaviest.specs.Heaviest.{heaviest_answer, heaviest_output};
 ghost use Rattle.results.specs.Most.{most_result};
 
 use heaviest::write_image;
-use results::most::{TealsettleMost, most_result};
+use results::most::TealsettleMost;
 
 // An image of `n` bytes with as many writes as an accepted one can have, at the front of a buffer. A refusal leaves the
 // buffer as it was.
@@ -13,5 +13,5 @@ pub extern "C" fn tealsettle_heaviest_image(n: usize, out: &mut [u8]) -> Tealset
     ensures answer { result ≡ most_result (heaviest_answer n (length out.old)) }
     ensures output { out.new ≡ heaviest_output n out.old }
 {
-    most_result(write_image(n, out))
+    write_image(n, out).into()
 }

@@ -2,23 +2,19 @@
 ghost use Rattle.std.specs.Prelude.{◌≡◌};
 ghost use Rattle.hostfiles.specs.Switch.{switch_call};
 
-use base::refusal;
+use base::refusal::{Reason, ask};
 use chip::switch;
-use chip::switch::SwitchAnswer;
-use fileresults::switch::{TealsettleSwitch, switch_result};
+use fileresults::switch::TealsettleSwitch;
 use kind::spi::Spi;
 
 // The switch of a chip.
+// Stays: the C interface names a kind of chip by a number.
 #[unsafe(no_mangle)]
+#[tactic(auto, unfolding(base::specs::Question::ask))]
 pub extern "C" fn tealsettle_switch(kind: u32, chip: &[u8]) -> TealsettleSwitch
     ensures { result ≡ switch_call kind chip.now }
 {
-    let mut answer = SwitchAnswer::Refused {
-        number: refusal::BAD_CHIP_LENGTH,
-        place: 0,
-    };
-    if Spi::has_number(kind) {
-        answer = switch::read(chip);
-    }
-    switch_result(answer)
+    ask(Spi::has_number(kind), Reason::BadChipLength)
+        .and_then(|()| switch::read(chip))
+        .into()
 }

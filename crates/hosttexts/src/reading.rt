@@ -4,7 +4,7 @@ ghost use Rattle.mcs.specs.Reader.{read_answer, read_output};
 ghost use Rattle.results.specs.Text.{read_result};
 
 use mcs::reader;
-use results::text::{TealsettleRead, read_result};
+use results::text::TealsettleRead;
 
 // Reads MCS text into a buffer. A refusal leaves the buffer as it was.
 #[unsafe(no_mangle)]
@@ -12,5 +12,5 @@ pub extern "C" fn tealsettle_mcs_read(text: &[u8], out: &mut [u8]) -> Tealsettle
     ensures answer { result ≡ read_result (read_answer text.now out.old) }
     ensures output { out.new ≡ read_output text.now out.old }
 {
-    read_result(reader::read(text, out))
+    reader::read(text, out).into()
 }

@@ -2,30 +2,33 @@
 ghost use Rattle.std.specs.Prelude.{◌≡◌};
 ghost use Rattle.hosttexts.specs.Result.{text_result};
 
-use mcswriter::TextAnswer;
+use base::refusal::Refusal;
 
 // A refusal's number and place, or 0, 0 and how many characters the text has.
+// Stays: the C interface gets an answer as a struct of numbers, with a refusal's number and place in front.
 #[repr(C)]
-#[derive(Drop)]
+#[derive(Default, Drop)]
 pub struct TealsettleText {
     pub number: u32,
     pub place: usize,
     pub length: usize,
 }
 
-pub fn text_result(answer: TextAnswer) -> TealsettleText
-    ensures { result ≡ text_result answer }
-{
-    match answer {
-        TextAnswer::Text { length } => TealsettleText {
-            number: 0,
-            place: 0,
-            length,
-        },
-        TextAnswer::Refused { number, place } => TealsettleText {
-            number,
-            place,
-            length: 0,
-        },
+impl From<Result<usize, Refusal>> for TealsettleText {
+    ghost from_gives = { λ answer given. given ≡ text_result answer };
+
+    #[tactic(auto, unfolding(crate::specs::Result::text_result, base::specs::Answer::in_numbers))]
+    fn from(answer: Result<usize, Refusal>) -> TealsettleText {
+        match answer {
+            Ok(length) => TealsettleText {
+                length,
+                ..TealsettleText::default()
+            },
+            Err(refusal) => TealsettleText {
+                number: refusal.reason.number(),
+                place: refusal.place,
+                ..TealsettleText::default()
+            },
+        }
     }
 }

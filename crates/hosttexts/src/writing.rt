@@ -4,7 +4,7 @@ ghost use Rattle.mcswriter.specs.Mcswriter.{length_answer, write_answer, write_o
 ghost use Rattle.hosttexts.specs.Result.{text_result};
 ghost use Rattle.hosttexts.specs.Writing.{WrittenBack, form_call};
 
-use crate::result::{TealsettleText, text_result};
+use crate::result::TealsettleText;
 use canonicaltest::is_canonical;
 use mcswriter::{text_length, write};
 
@@ -15,7 +15,7 @@ pub extern "C" fn tealsettle_mcs_write(image: &[u8], out: &mut [u8]) -> Tealsett
     ensures output { out.new ≡ write_output image.now out.old }
     ensures back { WrittenBack image.now result out.new }
 {
-    text_result(write(image, out))
+    write(image, out).into()
 }
 
 // How long the text of an image of so many bytes is.
@@ -23,13 +23,14 @@ pub extern "C" fn tealsettle_mcs_write(image: &[u8], out: &mut [u8]) -> Tealsett
 pub extern "C" fn tealsettle_mcs_length(image_length: usize) -> TealsettleText
     ensures { result ≡ text_result (length_answer image_length) }
 {
-    text_result(text_length(image_length))
+    text_length(image_length).into()
 }
 
 // Whether a text is the one that some image is written to: 1 or 0.
 #[unsafe(no_mangle)]
+#[tactic(auto, unfolding(crate::specs::Writing::form_call, base::specs::Question::ask))]
 pub extern "C" fn tealsettle_mcs_form(text: &[u8]) -> u32
     ensures { result ≡ form_call text.now }
 {
-    if is_canonical(text) { 1 } else { 0 }
+    u32::from(is_canonical(text))
 }
