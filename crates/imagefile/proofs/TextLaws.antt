@@ -1,13 +1,14 @@
 -- Text by the places of its bytes, and by its parts.
 use Prim.Native.Nat.{ℕ, ◌+◌, ◌<◌, ◌≤◌}
-use mathlib.Core.Path.{◌≡◌, refl, ap, sym, ◌∙◌}
+use mathlib.Core.Path.{◌≡◌, refl, ap, ◌∙◌}
 use mathlib.Core.Bool.{Bool, true, false, ◌&&◌}
 use mathlib.Core.List.{List, [], ◌∷◌, ◌++◌}
 use native.Mathlib.Numerals.{add-one}
+use native.Mathlib.Omega.{arith}
 use borrow.Author.Tests.{le-leb, lt-leb}
 use lib.Dec.{leb}
-use lib.ListN.{length, get_or, take, drop, take-append-drop, drop_of_length-le}
-use lib.Seq.{drop-cons, drop-drop}
+use lib.ListN.{length, get_or, drop, drop_of_length-le}
+use lib.Seq.{drop-cons}
 use Rattle.imagefile.specs.Imagefile.{is_text}
 
 -- A byte up to 7F says nothing; one above it says no; and after the last byte there is none.
@@ -22,6 +23,12 @@ text_stop file i h high = rw (drop-cons file i 0 h, is_text, lt-leb (get_or file
 text_end : (file : List ℕ) (i : ℕ) → length file ≤ i → is_text (drop i file) ≡ true
 unfolding is_text
 text_end file i h = rw (drop_of_length-le file {i = i} h) refl
+
+-- Where there are no bytes, none is above 7F.
+pub none_is_text : (bytes : List ℕ) → length bytes ≡ 0 → true ≡ is_text bytes
+unfolding is_text
+none_is_text [] h = refl
+none_is_text (byte ∷ bytes) h = absurd (omega arith)
 
 -- The same beside what is known of the bytes before.
 pub and_text_on : (text : Bool) (file : List ℕ) (i : ℕ) → i < length file → get_or file i 0 ≤ 0x7F → (text && is_text (drop i file)) ≡ (text && is_text (drop (i + 1) file))
@@ -44,16 +51,3 @@ pub text_parts : (xs ys : List ℕ) → is_text (xs ++ ys) ≡ (is_text xs && is
 unfolding is_text
 text_parts [] ys = refl
 text_parts (x ∷ xs) ys = ap (λ b. leb x 0x7F && b) (text_parts xs ys) ∙ and_assoc (leb x 0x7F) (is_text xs) (is_text ys)
-
--- So from a place on: a block, and what follows it.
-blocks : (file : List ℕ) (at count : ℕ) → is_text (drop at file) ≡ (is_text (take count (drop at file)) && is_text (drop (at + count) file))
-blocks file at count =
-    ap is_text (sym (take-append-drop count (drop at file)))
-    ∙ text_parts (take count (drop at file)) (drop count (drop at file))
-    ∙ ap (λ l. is_text (take count (drop at file)) && is_text l) (drop-drop count at file)
-
-pub text_after_block : (file : List ℕ) (at count : ℕ) → is_text (take count (drop at file)) ≡ true → is_text (drop at file) ≡ is_text (drop (at + count) file)
-text_after_block file at count text = blocks file at count ∙ ap (λ b. b && is_text (drop (at + count) file)) text
-
-pub no_text_block : (file : List ℕ) (at count : ℕ) → is_text (take count (drop at file)) ≡ false → is_text (drop at file) ≡ false
-no_text_block file at count high = blocks file at count ∙ ap (λ b. b && is_text (drop (at + count) file)) high

@@ -33,6 +33,7 @@ fn begins_as_bit(file: &[u8]) -> bool
 }
 
 // The length that a field says of its content.
+#[tactic(auto, unfolding(crate::specs::Imagefile::content_length))]
 fn content_length(field: &[u8]) -> usize
     requires { 3 ≤ length field.now }
     ensures { result ≡ content_length field.now }
@@ -41,6 +42,7 @@ fn content_length(field: &[u8]) -> usize
 }
 
 // Is a field with this letter at the front, whole? Asked of what is left of the file, so that no sum can wrap.
+#[tactic(auto, using(crate::proofs::FieldLaws::has_short, crate::proofs::FieldLaws::has_other, crate::proofs::FieldLaws::has_here))]
 fn has_field(bytes: &[u8], letter: u8) -> bool
     ensures { result ≡ has_field letter bytes.now }
 {
@@ -54,6 +56,7 @@ fn has_field(bytes: &[u8], letter: u8) -> bool
 }
 
 // The image's own field, or the refusal of what is there instead. The bytes are those from its place on.
+#[tactic(auto, using(crate::proofs::FieldLaws::image_short, crate::proofs::FieldLaws::image_other, crate::proofs::FieldLaws::image_cut, crate::proofs::FieldLaws::image_whole))]
 fn image_field(bytes: &[u8], place: usize) -> Result<FileForm, Refusal>
     requires { place + length bytes.now < 2 ^ 64 }
     ensures { result ≡ image_field bytes.now place }
@@ -79,6 +82,7 @@ fn image_field(bytes: &[u8], place: usize) -> Result<FileForm, Refusal>
 }
 
 // The fields of a BIT file, from after its first 13 bytes.
+#[tactic(auto, using(crate::proofs::FieldLaws::from_place, crate::proofs::FieldLaws::field_fits, crate::proofs::FieldLaws::fields_stop, crate::proofs::FieldLaws::fields_on, crate::proofs::FieldLaws::fields_done))]
 fn read_fields(file: &[u8]) -> Result<FileForm, Refusal>
     requires { 13 ≤ length file.now }
     ensures { result ≡ fields letters (drop 13 file.now) 13 }
@@ -101,6 +105,7 @@ fn read_fields(file: &[u8]) -> Result<FileForm, Refusal>
 const BLOCK: usize = 4096;
 
 // Have these bytes none above 7F? The loop is never left early, so that the compiler compares many at a time.
+#[tactic(auto, using(crate::proofs::TextLaws::and_text_on, crate::proofs::TextLaws::and_text_stop, crate::proofs::TextLaws::and_text_end))]
 fn block_is_text(block: &[u8]) -> bool
     ensures { result ≡ is_text block.now }
 {
@@ -114,6 +119,7 @@ fn block_is_text(block: &[u8]) -> bool
 }
 
 // Has a file no byte above 7F? Block by block: most binary files are told by their first.
+#[tactic(auto, using(crate::proofs::TextLaws::text_parts, crate::proofs::TextLaws::none_is_text))]
 fn is_text(file: &[u8]) -> bool
     ensures { result ≡ is_text file.now }
 {

@@ -1,12 +1,7 @@
--- `read_fields` meets its contract. The loop's invariant: the fields from here, from the i-th letter on, give what those from the first give.
-use Prim.Native.Nat.{◌-◌, ◌≤◌}
-use mathlib.Core.Path.{◌≡◌}
-use lib.ListN.{length, drop}
+-- `read_fields` meets its contract. The loop's invariant: the fields from here, from this letter on, give what those from the first give.
+use Rattle.std.proofs.Common.{◌≡◌, ◌≤◌, length, drop}
 use Rattle.imagefile.specs.Imagefile.{letters, fields}
 use Rattle.imagefile.proofs.read_fields.Given as goal
 
-abbrev pub invariant-loop-i : goal.invariant-loop-i
-invariant-loop-i l = (l.at ≤ length l.file) × (l.i ≤ 4) × (fields (drop l.i letters) (drop l.at l.file) l.at ≡ fields letters (drop 13 l.file) 13)
-
-abbrev pub decreases-loop-i : goal.decreases-loop-i
-decreases-loop-i l = 4 - l.i
+abbrev pub invariant-loop-letter : goal.invariant-loop-letter
+invariant-loop-letter l = (l.at ≤ length l.file) × (l.letter-index ≤ 4) × (fields (drop l.letter-index letters) (drop l.at l.file) l.at ≡ fields letters (drop 13 l.file) 13)
