@@ -1,9 +1,8 @@
 // Bytes written as pairs of capital hexadecimal digits, and what bytes add to. For the crates above it alone: its
-// functions ask their caller for places within what is lent. They take a slice and numbers, not a part of the slice: so they
-// are compiled into the loop that calls them.
+// functions ask their caller for places within what is lent.
 #![tactic(auto)]
 
-ghost use Rattle.std.specs.Prelude.{◌≡◌, ◌+◌, ◌*◌, ◌<◌, ◌≤◌, [], ◌∷◌, length, get_or, take, drop};
+ghost use Rattle.std.specs.Prelude.{◌≡◌, ◌+◌, ◌*◌, ◌<◌, ◌≤◌, [], ◌∷◌, length, get_or};
 ghost use Rattle.std.proofs.Math.Seq.{paste};
 ghost use Rattle.digits.specs.Digit.{digits, hex, byte_sum};
 
@@ -30,27 +29,27 @@ pub fn put_pair(out: &mut [u8], at: usize, byte: u8)
     out[at + 1] = character(byte % 16);
 }
 
-// The digits of `count` bytes from `from` on, at `at`.
-#[tactic(auto, using(crate::proofs::SpanLaws::next_put))]
-pub fn put_pairs(bytes: &[u8], from: usize, count: usize, out: &mut [u8], at: usize)
-    requires { (from + count ≤ length bytes.now) × (at + 2 * count ≤ length out.old) }
-    ensures { out.new ≡ paste out.old at (hex (take count (drop from bytes.now))) (2 * count) }
+// The digits of bytes, at `at`.
+#[tactic(auto, using(crate::proofs::SpanLaws::no_digits, crate::proofs::SpanLaws::next_put))]
+pub fn put_pairs(bytes: &[u8], out: &mut [u8], at: usize)
+    requires { at + 2 * length bytes.now ≤ length out.old }
+    ensures { out.new ≡ paste out.old at (hex bytes.now) (2 * length bytes.now) }
 {
-    for i in 0..count {
-        put_pair(out, at + 2 * i, bytes[from + i]);
+    for (i, byte) in bytes.iter().enumerate() {
+        put_pair(out, at + 2 * i, *byte);
     }
 }
 
-// What `count` bytes from `from` on add to.
+// What bytes add to.
 #[tactic(auto, using(crate::proofs::SpanLaws::no_sum, crate::proofs::SpanLaws::next_sum))]
-pub fn byte_sum(bytes: &[u8], from: usize, count: usize) -> u32
-    requires { (from + count ≤ length bytes.now) × (count ≤ 255) }
-    ensures value { result ≡ byte_sum (take count (drop from bytes.now)) }
-    ensures range { result ≤ 255 * count }
+pub fn byte_sum(bytes: &[u8]) -> u32
+    requires { length bytes.now ≤ 255 }
+    ensures value { result ≡ byte_sum bytes.now }
+    ensures range { result ≤ 255 * length bytes.now }
 {
     let mut sum = 0;
-    for i in 0..count {
-        sum += u32::from(bytes[from + i]);
+    for byte in bytes {
+        sum += u32::from(*byte);
     }
     sum
 }

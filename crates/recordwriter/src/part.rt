@@ -18,7 +18,7 @@ fn put_upper(out: &mut [u8], at: usize, place: usize) -> usize
         return at;
     }
     let half = (place / SEGMENT) as u16;
-    put_record(out, at, 0x04, 0, &half.to_be_bytes(), 0, 2)
+    put_record(out, at, 0x04, 0, &half.to_be_bytes())
 }
 
 // The lines of a part that begins at `start` in the image, a multiple of 16, at `to`; the place after them.
@@ -27,14 +27,12 @@ pub fn put_part(part: &[u8], start: usize, out: &mut [u8], to: usize) -> usize
     ensures place { result ≡ to + length (part_text start part.now) }
     ensures output { out.new ≡ paste out.old to (part_text start part.now) (length (part_text start part.now)) }
 {
-    let mut done = 0;
+    let mut place = start;
     let mut at = to;
-    while done < part.len() {
-        let count = PER_RECORD.min(part.len() - done);
-        at = put_upper(out, at, start + done);
-        let address = ((start + done) % SEGMENT) as u16;
-        at = put_record(out, at, 0x00, address, part, done, count);
-        done += count;
+    for bytes in part.chunks(PER_RECORD) {
+        at = put_upper(out, at, place);
+        at = put_record(out, at, 0x00, (place % SEGMENT) as u16, bytes);
+        place += bytes.len();
     }
     at
 }
@@ -45,5 +43,5 @@ pub fn put_end(out: &mut [u8], at: usize) -> usize
     ensures place { result ≡ at + 12 }
     ensures output { out.new ≡ paste out.old at (record_text end_line) 12 }
 {
-    put_record(out, at, 0x01, 0, &[], 0, 0)
+    put_record(out, at, 0x01, 0, &[])
 }

@@ -1,5 +1,5 @@
 // One record's line: a colon, its pairs, the sum, LF.
-ghost use Rattle.std.specs.Prelude.{◌≡◌, ◌+◌, ◌*◌, ◌<◌, ◌≤◌, ◌∷◌, length, take, drop};
+ghost use Rattle.std.specs.Prelude.{◌≡◌, ◌+◌, ◌*◌, ◌<◌, ◌≤◌, ◌∷◌, length};
 ghost use Rattle.std.proofs.Math.Seq.{paste};
 ghost use Rattle.digits.specs.Digit.{hex};
 ghost use Rattle.mcsline.specs.Record.{COLON as colon, header, body, checksum};
@@ -22,34 +22,26 @@ fn put_header(out: &mut [u8], at: usize, kind: u8, address: u16, count: usize)
 }
 
 // The sum of a record: what its pairs lack of a multiple of 256.
-fn sum_of(kind: u8, address: u16, bytes: &[u8], from: usize, count: usize) -> u8
-    requires { (from + count ≤ length bytes.now) × (count ≤ 255) }
-    ensures { result ≡ checksum (body kind address (take count (drop from bytes.now))) }
+fn sum_of(kind: u8, address: u16, bytes: &[u8]) -> u8
+    requires { length bytes.now ≤ 255 }
+    ensures { result ≡ checksum (body kind address bytes.now) }
 {
     let [high, low] = address.to_be_bytes();
-    let header = count as u32 + u32::from(high) + u32::from(low) + u32::from(kind);
-    let total = header + byte_sum(bytes, from, count);
+    let header = bytes.len() as u32 + u32::from(high) + u32::from(low) + u32::from(kind);
+    let total = header + byte_sum(bytes);
     ((256 - total % 256) % 256) as u8
 }
 
-// The line of a record with `count` of the bytes, from `from` on, at `at`; the place after it.
-pub fn put_record(
-    out: &mut [u8],
-    at: usize,
-    kind: u8,
-    address: u16,
-    bytes: &[u8],
-    from: usize,
-    count: usize,
-) -> usize
-    requires { (from + count ≤ length bytes.now) × (count ≤ 255) × (at + (2 * count + 12) ≤ length out.old) }
-    ensures place { result ≡ at + (2 * count + 12) }
-    ensures output { out.new ≡ paste out.old at (line_of kind address (take count (drop from bytes.now))) (2 * count + 12) }
+// The line of a record with these bytes, at `at`; the place after it.
+pub fn put_record(out: &mut [u8], at: usize, kind: u8, address: u16, bytes: &[u8]) -> usize
+    requires { (length bytes.now ≤ 255) × (at + (2 * length bytes.now + 12) ≤ length out.old) }
+    ensures place { result ≡ at + (2 * length bytes.now + 12) }
+    ensures output { out.new ≡ paste out.old at (line_of kind address bytes.now) (2 * length bytes.now + 12) }
 {
-    put_header(out, at, kind, address, count);
-    put_pairs(bytes, from, count, out, at + 9);
-    let after = at + 9 + 2 * count;
-    put_pair(out, after, sum_of(kind, address, bytes, from, count));
+    put_header(out, at, kind, address, bytes.len());
+    put_pairs(bytes, out, at + 9);
+    let after = at + 9 + 2 * bytes.len();
+    put_pair(out, after, sum_of(kind, address, bytes));
     out[after + 2] = LF;
     after + 3
 }
