@@ -57,13 +57,13 @@ fn agree(bytes: &[u8], expected: &[u8]) -> bool
 }
 
 // The first address, from a place on, at which bytes are not those expected there.
+#[tactic(auto, using(crate::proofs::ComparisonLaws::differs_next, crate::proofs::ComparisonLaws::differs_here, crate::proofs::ComparisonLaws::differs_end))]
 fn first_difference(place: usize, bytes: &[u8], expected: &[u8]) -> Option<usize>
     requires { (place ≤ longest_chip) × (length expected.now ≤ length bytes.now) × (length bytes.now ≤ page) }
     ensures { result ≡ differs place bytes.now (padded (length bytes.now) expected.now) }
 {
     for (i, byte) in bytes.iter().enumerate() {
-        let expected_byte = if i < expected.len() { expected[i] } else { 0xFF };
-        if *byte != expected_byte {
+        if *byte != expected.get(i).copied().unwrap_or(0xFF) {
             return Some(place + i);
         }
     }
@@ -72,6 +72,7 @@ fn first_difference(place: usize, bytes: &[u8], expected: &[u8]) -> Option<usize
 
 // Compares bytes from a place on with those expected there: `expected`, then FF. The first address at which they
 // differ, or none. Nearly every look agrees, so the slower search for an address waits until one does not.
+#[tactic(auto, using(crate::proofs::ComparisonLaws::differs_none))]
 pub fn compare(place: usize, bytes: &[u8], expected: &[u8]) -> Option<usize>
     requires { (place ≤ longest_chip) × (length expected.now ≤ length bytes.now) × (length bytes.now ≤ page) }
     ensures { result ≡ differs place bytes.now (padded (length bytes.now) expected.now) }
