@@ -1,11 +1,11 @@
 -- What is proved of the functions for files, lists and reports: a host that goes through a list with `tealsettle_next_write` gets what `tealsettle_write` answers, write by write; how large a buffer a report needs; and that MCS text is told as text.
-use Rattle.std.specs.Prelude.{ℕ, zero, suc, ◌+◌, ◌*◌, ◌<◌, ◌≤◌, ◌≡◌, List, length}
+use Rattle.std.specs.Prelude.{ℕ, zero, suc, ◌+◌, ◌*◌, ◌<◌, ◌≤◌, ◌≡◌, List, length, Ok}
 use Rattle.kind.specs.Spi.{spi, spi_number}
 use Rattle.bootreader.specs.Boot.{boot_answer, chip_write}
 use Rattle.bootreader.specs.Image.{image_answer, image_write}
 use Rattle.results.specs.Boot.{boot_result, write_result, image_result}
 use Rattle.imagefile.specs.Imagefile.{form_answer}
-use Rattle.mcs.specs.Reading.{Holds, read_text}
+use Rattle.mcs.specs.Reading.{read_text}
 use Rattle.fileresults.specs.List.{given_cursor}
 use Rattle.hostfiles.specs.List.{listing_call, image_listing_call, next_call}
 use Rattle.hostfiles.specs.Reporting.{report_call}
@@ -59,4 +59,4 @@ ReportFits =
 
 -- A text that `tealsettle_mcs_read` reads, into a buffer that is large enough, is told as text by `tealsettle_file_form`.
 abbrev pub TextTold : Type 0
-TextTold = (text image : List ℕ) → read_text text ≡ Holds image → form_answer text ≡ FormText
+TextTold = (text image : List ℕ) → read_text text ≡ Ok image → form_answer text ≡ Ok FormText
