@@ -6,13 +6,18 @@ use mathlib.Core.List.{List, [], ◌∷◌}
 use native.Mathlib.Nat.{add-zero}
 use native.Mathlib.Numerals.{add-one}
 use native.Mathlib.Omega.{arith}
-use borrow.Author.Tests.{eqb-true, eq-eqb}
+use borrow.Author.Tests.{eqb-true, eqb-false, eq-eqb, ne_eqb}
 use lib.Dec.{eqb}
 use lib.ListN.{length, get_or, drop, length-drop}
 use lib.Seq.{drop-cons, get_or-drop}
 use Rattle.base.proofs.Laws.{false_of, both_true}
 use Rattle.framing.specs.Search.{sync_bytes, begins_with, find}
-use Rattle.framing.specs.Types.{SyncAt, NoSync}
+use Rattle.std.specs.Prelude.{Some, None}
+use Rattle.std.specs.List.{list_any, starts_with}
+use Rattle.std.proofs.lemmas.List.Folds.{list_any_at}
+use Rattle.base.proofs.Laws.{false_true}
+use Rattle.std.proofs.Common.{take, ap₂, ◌&&◌, length-take}
+use Rattle.std.proofs.lemmas.List.{get_or-take}
 
 -- Where a pattern begins, its bytes stand.
 
@@ -43,6 +48,20 @@ starts_differs ps xs j h d = false_of (begins_with ps xs) (λ e. d (starts_at ps
 pub starts_short : (ps xs : List ℕ) → length xs < length ps → begins_with ps xs ≡ false
 starts_short ps xs h = false_of (begins_with ps xs) (λ e. let l : length ps ≤ length xs = starts_length ps xs e in omega arith)
 
+eqb-sym : (a b : ℕ) → eqb a b ≡ eqb b a
+eqb-sym a b = go (eqb a b) refl
+  where
+    go : (t : Bool) → eqb a b ≡ t → eqb a b ≡ eqb b a
+    go true e = e ∙ sym (eq-eqb b a (sym (eqb-true a b e)))
+    go false e = e ∙ sym (ne_eqb b a (λ h. eqb-false a b e (sym h)))
+
+-- A slice's `starts_with` says the same.
+pub starts_begins : (ps xs : List ℕ) → starts_with eqb xs ps ≡ begins_with ps xs
+unfolding begins_with
+starts_begins [] xs = refl
+starts_begins (p ∷ ps) [] = refl
+starts_begins (p ∷ ps) (x ∷ xs) = ap₂ ◌&&◌ (eqb-sym p x) (starts_begins ps xs)
+
 -- The same by a place of the bytes.
 pub differs_at : (s : List ℕ) (at j : ℕ) → j < 4 → (get_or s (at + j) 0 ≡ get_or sync_bytes j 0 → ⊥) → begins_with sync_bytes (drop at s) ≡ false
 differs_at s at j h d = starts_differs sync_bytes (drop at s) j h (λ e. d (sym (get_or-drop at s j 0) ∙ e))
@@ -52,12 +71,12 @@ stands_at s at l h = starts_all sync_bytes (drop at s) (simp length-drop (omega 
 
 -- The search.
 
-pub find_here : (xs : List ℕ) (p : ℕ) → begins_with sync_bytes xs ≡ true → find xs p ≡ SyncAt p
+pub find_here : (xs : List ℕ) (p : ℕ) → begins_with sync_bytes xs ≡ true → find xs p ≡ Some p
 unfolding find begins_with
 find_here [] p e = let z : ◌≡◌ {A = ℕ} 0 1 = cc in absurd (omega arith)
 find_here (x ∷ xs) p e = rw (e, find)
 
-pub find_short : (xs : List ℕ) (p : ℕ) → length xs < 4 → find xs p ≡ NoSync
+pub find_short : (xs : List ℕ) (p : ℕ) → length xs < 4 → find xs p ≡ None
 unfolding find
 find_short [] p h = refl
 find_short (x ∷ xs) p h = rw (starts_short sync_bytes (x ∷ xs) h, find) (find_short xs (p + 1) (omega arith))
@@ -78,15 +97,21 @@ find_past s (suc k) at l h =
     ∙ find_past s k (at + 1) (omega arith) (λ i j. let e : at + 1 + i ≡ at + suc i = omega arith in rw e (h (suc i) (omega arith)))
     ∙ (let e : at + 1 + k ≡ at + suc k = omega arith in rw e refl)
 
+-- It passes over as many bytes of which none is a sync word's first.
+pub find_past_clear : (s : List ℕ) (k at : ℕ) → at + k ≤ length s → list_any (λ y. eqb y 0xAA) (take k (drop at s)) ≡ false → find (drop at s) at ≡ find (drop (at + k) s) (at + k)
+find_past_clear s k at l clear = find_past s k at l (λ i h. differs_at s (at + i) 0 (omega arith) (λ e.
+    let here : get_or (take k (drop at s)) i 0 ≡ 0xAA = get_or-take k (drop at s) i 0 h ∙ get_or-drop at s i 0 ∙ rw (sym (add-zero (at + i))) e in
+    false_true (sym clear ∙ list_any_at (λ y. eqb y 0xAA) (take k (drop at s)) i 0 (simp (length-take, length-drop) (omega arith)) (eq-eqb _ _ here))))
+
 -- A sync word that is found stands at or after where the search began, whole.
-pub find_within : (xs : List ℕ) (p at : ℕ) → find xs p ≡ SyncAt at → (p ≤ at) × (at + 4 ≤ p + length xs)
+pub find_within : (xs : List ℕ) (p at : ℕ) → find xs p ≡ Some at → (p ≤ at) × (at + 4 ≤ p + length xs)
 unfolding find
 find_within [] p at e = let z : ◌≡◌ {A = ℕ} 0 1 = cc in absurd (omega arith)
 find_within (x ∷ xs) p at e = go (begins_with sync_bytes (x ∷ xs)) refl (λ f. find_within xs (p + 1) at (sym (find_next xs p x f) ∙ e))
   where
     go : (b : Bool) → begins_with sync_bytes (x ∷ xs) ≡ b → (begins_with sync_bytes (x ∷ xs) ≡ false → (p + 1 ≤ at) × (at + 4 ≤ p + 1 + length xs)) → (p ≤ at) × (at + 4 ≤ p + length (x ∷ xs))
     go true t ih =
-        let q : SyncAt p ≡ SyncAt at = sym (find_here (x ∷ xs) p t) ∙ e in
+        let q : Some p ≡ Some at = sym (find_here (x ∷ xs) p t) ∙ e in
         let r : p ≡ at = cc in
         let l : 4 ≤ length (x ∷ xs) = starts_length sync_bytes (x ∷ xs) t in omega arith
     go false f ih = let w : (p + 1 ≤ at) × (at + 4 ≤ p + 1 + length xs) = ih f in omega arith

@@ -18,28 +18,14 @@ fn skip_after(last: u8) -> usize
     }
 }
 
-// Whether no sync word can begin in the 32 bytes from `at` on. The loop is never left early: so it is
-// compiled to compare all of them at once. In bytes with many AA in them, longer blocks would cost more than they save.
-fn is_clear(s: &[u8], at: usize) -> bool
-    requires { at + 32 ≤ length s.now }
-    ensures { result ≡ true → (i : ℕ) → i < 32 → get_or s.now (at + i) 0 ≡ get_or sync_bytes 0 0 → ⊥ }
-{
-    let mut clear = true;
-    for i in 0..32 {
-        if s[at + i] == 0xAA {
-            clear = false;
-        }
-    }
-    clear
-}
-
-// The place after as many blocks of 32 bytes as no sync word can begin in.
+// The place after as many blocks of 32 bytes as no sync word can begin in. In each all bytes are compared at once. In bytes with
+// many AA in them, longer blocks would cost more than they save.
 fn past_clear(s: &[u8], from: usize) -> usize
     requires { from ≤ length s.now }
     ensures { (from ≤ result) × (result ≤ length s.now) × (find (drop result s.now) result ≡ find (drop from s.now) from) }
 {
     let mut at = from;
-    while s.len() - at >= 32 && is_clear(s, at) {
+    while s.len() - at >= 32 && !s[at..at + 32].contains(&SYNC[0]) {
         at += 32;
     }
     at

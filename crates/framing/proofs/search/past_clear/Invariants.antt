@@ -1,7 +1,5 @@
 -- `framing::past_clear` meets its contract. The invariant: the search from here finds what the search from `from` finds.
-use Prim.Native.Nat.{◌-◌, ◌≤◌}
-use mathlib.Core.Path.{◌≡◌}
-use lib.ListN.{length, drop}
+use Rattle.std.proofs.Common.{◌≡◌, ◌-◌, ◌≤◌, length, drop}
 use Rattle.framing.specs.Search.{find}
 use Rattle.framing.proofs.search.past_clear.Given as goal
 

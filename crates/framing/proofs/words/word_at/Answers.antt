@@ -1,5 +1,5 @@
 -- `framing::word_at` meets its contract.
-use native.Mathlib.Omega.{arith}
+use Rattle.std.proofs.Common.{arith}
 use Rattle.framing.proofs.WordLaws.{word_of_law}
 use Rattle.framing.proofs.words.word_at.Goals as goal
 
