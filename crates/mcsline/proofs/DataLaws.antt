@@ -7,12 +7,13 @@ use lib.ListN.{length, take, drop}
 use Rattle.digits.specs.Pairs.{pair_at, ArePairs, pairs_at}
 use Rattle.digits.proofs.Laws.{length_pairs}
 use Rattle.mcsline.specs.Record.{Data, ExtendedLinearAddress, End}
-use Rattle.mcsline.specs.Line.{count_of, two_at, address_of, Parsed, Is, Refuses, typed, parsed}
+use Rattle.mcsline.specs.Line.{count_of, Parsed, typed, parsed}
 use Rattle.mcsline.specs.Place.{ending_at, line_at, Sound, Orderly, as_line}
-use Rattle.mcsline.specs.Types.{LineAnswer, DataLine, ExtendedLinearAddressLine, EndLine, LineRefused}
+use Rattle.mcsline.specs.Types.{Reason, CodeLine, DataLine, ExtendedLinearAddressLine, EndLine}
 use Rattle.mcsline.proofs.LineLaws.{line_long}
 use Rattle.mcsline.proofs.TypeLaws.{Typing, as_data, as_end, as_upper, as_none, typing, line_pairs, count_is, data_is}
 use Rattle.mcsline.proofs.ShapeLaws.{Formed, after_pairs, orderly, sound_formed, sound_typed}
+use Rattle.std.specs.Prelude.{Ok, Err}
 
 -- the place after the line at a place
 abbrev pub after : List ℕ → ℕ → ℕ
@@ -20,60 +21,60 @@ after text at = at + length (line_at text at)
 
 -- The code's form of a line, taken apart.
 
-pub line_data : (p : Parsed) (e address count end : ℕ) → as_line p e ≡ DataLine address count end → (bytes : List ℕ) × ((p ≡ Is (Data address bytes)) × (length bytes ≡ count) × (e ≡ end))
+pub line_data : (p : Parsed) (e address count end : ℕ) → as_line p e ≡ Ok (DataLine address count end) → (bytes : List ℕ) × ((p ≡ Ok (Data address bytes)) × (length bytes ≡ count) × (e ≡ end))
 unfolding as_line
-line_data (Refuses number) e address count end h = let z : ◌≡◌ {A = ℕ} 0 1 = cc in absurd (omega arith)
-line_data (Is (Data a bytes)) e address count end h = let q : a ≡ address = cc in (bytes, (rw q refl, cc, cc))
-line_data (Is (ExtendedLinearAddress half)) e address count end h = let z : ◌≡◌ {A = ℕ} 0 1 = cc in absurd (omega arith)
-line_data (Is End) e address count end h = let z : ◌≡◌ {A = ℕ} 0 1 = cc in absurd (omega arith)
+line_data (Err reason) e address count end h = absurd cc
+line_data (Ok (Data a bytes)) e address count end h = let q : a ≡ address = cc in (bytes, (rw q refl, cc, cc))
+line_data (Ok (ExtendedLinearAddress half)) e address count end h = absurd cc
+line_data (Ok End) e address count end h = absurd cc
 
-pub line_upper : (p : Parsed) (e upper end : ℕ) → as_line p e ≡ ExtendedLinearAddressLine upper end → (p ≡ Is (ExtendedLinearAddress upper)) × (e ≡ end)
+pub line_upper : (p : Parsed) (e upper end : ℕ) → as_line p e ≡ Ok (ExtendedLinearAddressLine upper end) → (p ≡ Ok (ExtendedLinearAddress upper)) × (e ≡ end)
 unfolding as_line
-line_upper (Refuses number) e upper end h = let z : ◌≡◌ {A = ℕ} 0 1 = cc in absurd (omega arith)
-line_upper (Is (Data a bytes)) e upper end h = let z : ◌≡◌ {A = ℕ} 0 1 = cc in absurd (omega arith)
-line_upper (Is (ExtendedLinearAddress half)) e upper end h = let q : half ≡ upper = cc in (rw q refl, cc)
-line_upper (Is End) e upper end h = let z : ◌≡◌ {A = ℕ} 0 1 = cc in absurd (omega arith)
+line_upper (Err reason) e upper end h = absurd cc
+line_upper (Ok (Data a bytes)) e upper end h = absurd cc
+line_upper (Ok (ExtendedLinearAddress half)) e upper end h = let q : half ≡ upper = cc in (rw q refl, cc)
+line_upper (Ok End) e upper end h = absurd cc
 
-pub line_end : (p : Parsed) (e end : ℕ) → as_line p e ≡ EndLine end → (p ≡ Is End) × (e ≡ end)
+pub line_end : (p : Parsed) (e end : ℕ) → as_line p e ≡ Ok (EndLine end) → (p ≡ Ok End) × (e ≡ end)
 unfolding as_line
-line_end (Refuses number) e end h = let z : ◌≡◌ {A = ℕ} 0 1 = cc in absurd (omega arith)
-line_end (Is (Data a bytes)) e end h = let z : ◌≡◌ {A = ℕ} 0 1 = cc in absurd (omega arith)
-line_end (Is (ExtendedLinearAddress half)) e end h = let z : ◌≡◌ {A = ℕ} 0 1 = cc in absurd (omega arith)
-line_end (Is End) e end h = (refl, cc)
+line_end (Err reason) e end h = absurd cc
+line_end (Ok (Data a bytes)) e end h = absurd cc
+line_end (Ok (ExtendedLinearAddress half)) e end h = absurd cc
+line_end (Ok End) e end h = (refl, cc)
 
-pub line_refused : (p : Parsed) (e number : ℕ) → as_line p e ≡ LineRefused number → p ≡ Refuses number
+pub line_refused : (p : Parsed) (e : ℕ) (reason : Reason) → as_line p e ≡ Err reason → p ≡ Err reason
 unfolding as_line
-line_refused (Refuses n) e number h = let q : n ≡ number = cc in rw q refl
-line_refused (Is (Data a bytes)) e number h = let z : ◌≡◌ {A = ℕ} 0 1 = cc in absurd (omega arith)
-line_refused (Is (ExtendedLinearAddress half)) e number h = let z : ◌≡◌ {A = ℕ} 0 1 = cc in absurd (omega arith)
-line_refused (Is End) e number h = let z : ◌≡◌ {A = ℕ} 0 1 = cc in absurd (omega arith)
+line_refused (Err r) e reason h = cc
+line_refused (Ok (Data a bytes)) e reason h = cc
+line_refused (Ok (ExtendedLinearAddress half)) e reason h = cc
+line_refused (Ok End) e reason h = cc
 
 -- A data record's bytes, by their place.
 
-not_data : (p : Parsed) (address : ℕ) (bytes : List ℕ) (number : ℕ) → p ≡ Refuses number → p ≡ Is (Data address bytes) → ⊥
-not_data p address bytes number e f = let z : ◌≡◌ {A = ℕ} 0 1 = cc in omega arith
+not_data : (p : Parsed) (address : ℕ) (bytes : List ℕ) (reason : Reason) → p ≡ Err reason → p ≡ Ok (Data address bytes) → ⊥
+not_data p address bytes reason e f = cc
 
-data_bytes : (pairs : List ℕ) (address : ℕ) (bytes : List ℕ) → typed pairs ≡ Is (Data address bytes) → bytes ≡ take (count_of pairs) (drop 4 pairs)
+data_bytes : (pairs : List ℕ) (address : ℕ) (bytes : List ℕ) → typed pairs ≡ Ok (Data address bytes) → bytes ≡ take (count_of pairs) (drop 4 pairs)
 data_bytes pairs address bytes e = go (typing pairs)
   where
     go : Typing pairs → bytes ≡ take (count_of pairs) (drop 4 pairs)
-    go (as_data t n f) = let g : Is (Data (address_of pairs) (take (count_of pairs) (drop 4 pairs))) ≡ Is (Data address bytes) = sym f ∙ e in cc
-    go (as_end t n a f) = let g : Is End ≡ Is (Data address bytes) = sym f ∙ e in let z : ◌≡◌ {A = ℕ} 0 1 = cc in absurd (omega arith)
-    go (as_upper t n a f) = let g : Is (ExtendedLinearAddress (two_at pairs 4)) ≡ Is (Data address bytes) = sym f ∙ e in let z : ◌≡◌ {A = ℕ} 0 1 = cc in absurd (omega arith)
-    go (as_none f) = absurd (not_data (typed pairs) address bytes 16 f e)
+    go (as_data t n f) = cc
+    go (as_end t n a f) = cc
+    go (as_upper t n a f) = cc
+    go (as_none f) = cc
 
 pub record DataAt (text : List ℕ) (at : ℕ) (bytes : List ℕ) : Type 0 where
   pub pairs : ArePairs text (at + 9) (length bytes)
   pub are : bytes ≡ pairs_at text (at + 9) (length bytes)
   pub within : at + 2 * length bytes + 12 ≤ at + length (line_at text at)
 
-pub data_at : (text : List ℕ) (at address : ℕ) (bytes : List ℕ) → at < length text → parsed (line_at text at) ≡ Is (Data address bytes) → DataAt text at bytes
+pub data_at : (text : List ℕ) (at address : ℕ) (bytes : List ℕ) → at < length text → parsed (line_at text at) ≡ Ok (Data address bytes) → DataAt text at bytes
 data_at text at address bytes inside e =
-    let sound : Sound (line_at text at) = λ n h. not_data (parsed (line_at text at)) address bytes n h e in
+    let sound : Sound (line_at text at) = λ reason h. not_data (parsed (line_at text at)) address bytes reason h e in
     let f : Formed text at = sound_formed text at inside sound in
     let count = pair_at text (at + 1) in
     let o : Orderly text at count (after_pairs text at + ending_at text (after_pairs text at)) = orderly text at inside f in
-    let t : typed (line_pairs text at count) ≡ Is (Data address bytes) = sym (sound_typed text at count (after_pairs text at + ending_at text (after_pairs text at)) o sound) ∙ e in
+    let t : typed (line_pairs text at count) ≡ Ok (Data address bytes) = sym (sound_typed text at count (after_pairs text at + ending_at text (after_pairs text at)) o sound) ∙ e in
     let b : bytes ≡ take (count_of (line_pairs text at count)) (drop 4 (line_pairs text at count)) = data_bytes (line_pairs text at count) address bytes t in
     let g : bytes ≡ pairs_at text (at + 9) count = b ∙ rw (count_is text at count) (data_is text at count) in
     let l : length bytes ≡ count = ap (λ (x : List ℕ). length x) g ∙ length_pairs text count (at + 9) in
@@ -85,10 +86,10 @@ data_at text at address bytes inside e =
     shifted text at count h j k = let e : at + 1 + 2 * (j + 4) ≡ at + 9 + 2 * j = omega arith in rw e at (h (j + 4) (omega arith))
 
 -- A data line that the code told of: its bytes, and how long it is.
-module _ (text : List ℕ) (at : ℕ) (inside : at < length text) (line : LineAnswer) (is : line ≡ as_line (parsed (line_at text at)) (after text at))
+module _ (text : List ℕ) (at : ℕ) (inside : at < length text) (line : CodeLine) (is : Ok line ≡ as_line (parsed (line_at text at)) (after text at))
     (address count end : ℕ) (e : line ≡ DataLine address count end) where
-  pub told_bytes : (bytes : List ℕ) × ((parsed (line_at text at) ≡ Is (Data address bytes)) × (length bytes ≡ count) × (after text at ≡ end))
-  told_bytes = line_data (parsed (line_at text at)) (after text at) address count end (sym is ∙ e)
+  pub told_bytes : (bytes : List ℕ) × ((parsed (line_at text at) ≡ Ok (Data address bytes)) × (length bytes ≡ count) × (after text at ≡ end))
+  told_bytes = line_data (parsed (line_at text at)) (after text at) address count end (sym is ∙ ap Ok e)
 
   pub told_data : DataAt text at told_bytes.0
   told_data = data_at text at address told_bytes.0 inside told_bytes.1.0

@@ -15,8 +15,9 @@ use Rattle.base.proofs.Laws.{false_of}
 use Rattle.digits.specs.Digit.{digits, place_in, digit_of, is_digit}
 use Rattle.digits.specs.Pairs.{pair_at, IsPair, ArePairs, pairs_at}
 use Rattle.mcsline.specs.Record.{LF, CR, COLON}
-use Rattle.mcsline.specs.Line.{Spelled, is_ending, Pairs, Broken, onto, spelled_by, line_spells}
+use Rattle.mcsline.specs.Line.{is_ending, onto, spelled_by, line_spells}
 use Rattle.mcsline.specs.Place.{ending_of, ending_at, first_line, line_at}
+use Rattle.std.specs.Prelude.{Option, Some, None}
 
 -- no digit ends a line
 pub digit_lf : (c : ℕ) → eqb c LF ≡ true → digit_of c < 16 → ⊥
@@ -34,17 +35,17 @@ not_ending a b (c ∷ cs) e = refl
 
 empty_ends : is_ending [] ≡ true → ⊥
 unfolding is_ending
-empty_ends e = let z : ◌≡◌ {A = ℕ} 0 1 = cc in omega arith
+empty_ends e = cc
 
 -- What characters spell, one step at a time.
 
-pub spelled_end : (cs : List ℕ) → is_ending cs ≡ true → spelled_by cs ≡ Pairs []
+pub spelled_end : (cs : List ℕ) → is_ending cs ≡ true → spelled_by cs ≡ Some []
 unfolding spelled_by ask
 spelled_end [] e = absurd (empty_ends e)
 spelled_end (a ∷ []) e = rw e
 spelled_end (a ∷ b ∷ cs) e = rw e
 
-pub spelled_one : (a : ℕ) → is_ending (a ∷ []) ≡ false → spelled_by (a ∷ []) ≡ Broken
+pub spelled_one : (a : ℕ) → is_ending (a ∷ []) ≡ false → spelled_by (a ∷ []) ≡ None
 unfolding spelled_by ask
 spelled_one a e = rw e
 
@@ -52,7 +53,7 @@ pub spelled_pair : (a b : ℕ) (cs : List ℕ) → is_ending (a ∷ b ∷ cs) �
 unfolding spelled_by ask
 spelled_pair a b cs e f g = rw (e, f, g) refl
 
-pub spelled_other : (a b : ℕ) (cs : List ℕ) → is_ending (a ∷ b ∷ cs) ≡ false → (is_digit a && is_digit b) ≡ false → spelled_by (a ∷ b ∷ cs) ≡ Broken
+pub spelled_other : (a b : ℕ) (cs : List ℕ) → is_ending (a ∷ b ∷ cs) ≡ false → (is_digit a && is_digit b) ≡ false → spelled_by (a ∷ b ∷ cs) ≡ None
 unfolding spelled_by ask
 spelled_other a b cs e f = rw (e, f) refl
 
@@ -86,9 +87,9 @@ ending_none a b e f = rw (e, f, ending_of)
 
 -- What stands at the front of characters: a line end, a pair, or neither.
 pub data View (t : List ℕ) : Type 0 where
-  ended : (IsPair t 0 → ⊥) → 1 ≤ ending_at t 0 → spelled_by (first_line t) ≡ Pairs [] → length (first_line t) ≡ ending_at t 0 → View t
+  ended : (IsPair t 0 → ⊥) → 1 ≤ ending_at t 0 → spelled_by (first_line t) ≡ Some [] → length (first_line t) ≡ ending_at t 0 → View t
   paired : IsPair t 0 → ending_at t 0 ≡ 0 → spelled_by (first_line t) ≡ onto (pair_at t 0) (spelled_by (first_line (drop 2 t))) → length (first_line t) ≡ 2 + length (first_line (drop 2 t)) → View t
-  broken : (IsPair t 0 → ⊥) → ending_at t 0 ≡ 0 → spelled_by (first_line t) ≡ Broken → View t
+  broken : (IsPair t 0 → ⊥) → ending_at t 0 ≡ 0 → spelled_by (first_line t) ≡ None → View t
 
 no_digit : digit_of 0 < 16 → ⊥
 unfolding digit_of place_in digits
@@ -173,31 +174,31 @@ view (a ∷ b ∷ t) = go (eqb a LF) (eqb a CR) (eqb b LF) refl refl refl
 
 -- The same by a place of the text.
 
-pub onto_none : (x : ℕ) (s : Spelled) → onto x s ≡ Pairs [] → ⊥
+pub onto_none : (x : ℕ) (s : Option (List ℕ)) → onto x s ≡ Some [] → ⊥
 unfolding onto
-onto_none x (Pairs xs) e = let z : ◌≡◌ {A = ℕ} 0 1 = cc in omega arith
-onto_none x Broken e = let z : ◌≡◌ {A = ℕ} 0 1 = cc in omega arith
+onto_none x (Some xs) e = cc
+onto_none x None e = cc
 
-pub onto_some : (x : ℕ) (s : Spelled) (y : ℕ) (ys : List ℕ) → onto x s ≡ Pairs (y ∷ ys) → (x ≡ y) × (s ≡ Pairs ys)
+pub onto_some : (x : ℕ) (s : Option (List ℕ)) (y : ℕ) (ys : List ℕ) → onto x s ≡ Some (y ∷ ys) → (x ≡ y) × (s ≡ Some ys)
 unfolding onto
-onto_some x (Pairs xs) y ys e = (cc, cc)
-onto_some x Broken y ys e = let z : ◌≡◌ {A = ℕ} 0 1 = cc in absurd (omega arith)
+onto_some x (Some xs) y ys e = (cc, cc)
+onto_some x None y ys e = cc
 
-pub onto_pairs : (x : ℕ) (s : Spelled) (ys : List ℕ) → s ≡ Pairs ys → onto x s ≡ Pairs (x ∷ ys)
+pub onto_pairs : (x : ℕ) (s : Option (List ℕ)) (ys : List ℕ) → s ≡ Some ys → onto x s ≡ Some (x ∷ ys)
 unfolding onto
 onto_pairs x s ys e = rw e refl
 
-pub none_some : {x : ℕ} {xs : List ℕ} → Pairs [] ≡ Pairs (x ∷ xs) → ⊥
-none_some e = let z : ◌≡◌ {A = ℕ} 0 1 = cc in omega arith
+pub none_some : {x : ℕ} {xs : List ℕ} → Some [] ≡ Some (x ∷ xs) → ⊥
+none_some e = cc
 
-pub broken_not : (ps : List ℕ) → Broken ≡ Pairs ps → ⊥
-broken_not ps e = let z : ◌≡◌ {A = ℕ} 0 1 = cc in omega arith
+pub broken_not : (ps : List ℕ) → None ≡ Some ps → ⊥
+broken_not ps e = cc
 
 pub spells_colon : (c : ℕ) (cs : List ℕ) → eqb c COLON ≡ true → line_spells (c ∷ cs) ≡ spelled_by cs
 unfolding line_spells ask
 spells_colon c cs e = rw e
 
-pub spells_other : (c : ℕ) (cs : List ℕ) → eqb c COLON ≡ false → line_spells (c ∷ cs) ≡ Broken
+pub spells_other : (c : ℕ) (cs : List ℕ) → eqb c COLON ≡ false → line_spells (c ∷ cs) ≡ None
 unfolding line_spells ask
 spells_other c cs e = rw e
 
@@ -218,7 +219,7 @@ first_some c cs = go (eqb c LF) refl
     go false e = rw (first_on c cs e) (omega arith)
 
 module _ (text : List ℕ) where
-  abbrev pub spelled_at : ℕ → Spelled
+  abbrev pub spelled_at : ℕ → Option (List ℕ)
   spelled_at p = spelled_by (first_line (drop p text))
 
   ending_drop : (p : ℕ) → ending_at (drop p text) 0 ≡ ending_at text p
@@ -239,14 +240,14 @@ module _ (text : List ℕ) where
 
   -- pairs and a line end after them are spelled
   pub spells : (k p : ℕ) → ArePairs text p k → 1 ≤ ending_at text (p + 2 * k) →
-      (spelled_at p ≡ Pairs (pairs_at text p k)) × (length (first_line (drop p text)) ≡ 2 * k + ending_at text (p + 2 * k))
+      (spelled_at p ≡ Some (pairs_at text p k)) × (length (first_line (drop p text)) ≡ 2 * k + ending_at text (p + 2 * k))
   unfolding pairs_at
   spells zero p h e = go (view (drop p text))
     where
       here : ending_at text (p + 2 * 0) ≡ ending_at (drop p text) 0
       here = let z : p + 2 * 0 ≡ p = omega arith in rw z (sym (ending_drop p))
 
-      go : View (drop p text) → (spelled_at p ≡ Pairs []) × (length (first_line (drop p text)) ≡ 2 * 0 + ending_at text (p + 2 * 0))
+      go : View (drop p text) → (spelled_at p ≡ Some []) × (length (first_line (drop p text)) ≡ 2 * 0 + ending_at text (p + 2 * 0))
       go (ended n m s l) = (s, omega (arith, here))
       go (paired q z s l) = absurd (omega (arith, here))
       go (broken n z s) = absurd (omega (arith, here))
@@ -259,8 +260,8 @@ module _ (text : List ℕ) where
       first = pair_drop p (rw add-zero at (h 0 (omega arith)))
 
       go : View (drop p text) →
-          (spelled_at (p + 2) ≡ Pairs (pairs_at text (p + 2) k)) × (length (first_line (drop (p + 2) text)) ≡ 2 * k + ending_at text (p + 2 + 2 * k)) →
-          (spelled_at p ≡ Pairs (pair_at text p ∷ pairs_at text (p + 2) k)) × (length (first_line (drop p text)) ≡ 2 * suc k + ending_at text (p + 2 * suc k))
+          (spelled_at (p + 2) ≡ Some (pairs_at text (p + 2) k)) × (length (first_line (drop (p + 2) text)) ≡ 2 * k + ending_at text (p + 2 + 2 * k)) →
+          (spelled_at p ≡ Some (pair_at text p ∷ pairs_at text (p + 2) k)) × (length (first_line (drop p text)) ≡ 2 * suc k + ending_at text (p + 2 * suc k))
       go (ended n m s l) ih = absurd (n first)
       go (paired q z s l) ih = (
         s ∙ onto_pairs (pair_at (drop p text) 0) (spelled_by (first_line (drop 2 (drop p text)))) (pairs_at text (p + 2) k) (rw drop-drop ih.0) ∙ simp (get_or-drop, add-zero) refl,
@@ -269,7 +270,7 @@ module _ (text : List ℕ) where
       go (broken n z s) ih = absurd (n first)
 
   -- what is spelled are pairs and a line end after them
-  pub spelled : (ps : List ℕ) (p : ℕ) → spelled_at p ≡ Pairs ps →
+  pub spelled : (ps : List ℕ) (p : ℕ) → spelled_at p ≡ Some ps →
       ArePairs text p (length ps) × (ps ≡ pairs_at text p (length ps)) × (1 ≤ ending_at text (p + 2 * length ps))
   unfolding pairs_at
   spelled [] p e = go (view (drop p text))
@@ -285,11 +286,11 @@ module _ (text : List ℕ) where
   spelled (x ∷ xs) p e = go (view (drop p text)) (spelled xs (p + 2))
     where
       go : View (drop p text) →
-          (spelled_at (p + 2) ≡ Pairs xs → ArePairs text (p + 2) (length xs) × (xs ≡ pairs_at text (p + 2) (length xs)) × (1 ≤ ending_at text (p + 2 + 2 * length xs))) →
+          (spelled_at (p + 2) ≡ Some xs → ArePairs text (p + 2) (length xs) × (xs ≡ pairs_at text (p + 2) (length xs)) × (1 ≤ ending_at text (p + 2 + 2 * length xs))) →
           ArePairs text p (suc (length xs)) × (x ∷ xs ≡ pair_at text p ∷ pairs_at text (p + 2) (length xs)) × (1 ≤ ending_at text (p + 2 * suc (length xs)))
       go (ended n m s l) ih = absurd (none_some (sym s ∙ e))
       go (paired q z s l) ih =
-          let o : (pair_at (drop p text) 0 ≡ x) × (spelled_by (first_line (drop 2 (drop p text))) ≡ Pairs xs) = onto_some (pair_at (drop p text) 0) (spelled_by (first_line (drop 2 (drop p text)))) x xs (sym s ∙ e) in
+          let o : (pair_at (drop p text) 0 ≡ x) × (spelled_by (first_line (drop 2 (drop p text))) ≡ Some xs) = onto_some (pair_at (drop p text) 0) (spelled_by (first_line (drop 2 (drop p text)))) x xs (sym s ∙ e) in
           let r : ArePairs text (p + 2) (length xs) × (xs ≡ pairs_at text (p + 2) (length xs)) × (1 ≤ ending_at text (p + 2 + 2 * length xs)) = ih (rw drop-drop at o.1) in
           let y : pair_at text p ≡ x = simp (get_or-drop, add-zero) at o.0 in
           let on : p + 2 + 2 * length xs ≡ p + 2 * suc (length xs) = omega arith in
@@ -307,7 +308,7 @@ module _ (text : List ℕ) where
       let l : line_at text at ≡ get_or text at 0 ∷ first_line (drop (at + 1) text) = ap first_line (cut at h) ∙ first_on (get_or text at 0) (drop (at + 1) text) (rw e refl) in
       (rw l (spells_colon (get_or text at 0) (first_line (drop (at + 1) text)) (rw e refl)), rw l refl)
 
-  pub line_colon : (at : ℕ) (ps : List ℕ) → at < length text → line_spells (line_at text at) ≡ Pairs ps → get_or text at 0 ≡ COLON
+  pub line_colon : (at : ℕ) (ps : List ℕ) → at < length text → line_spells (line_at text at) ≡ Some ps → get_or text at 0 ≡ COLON
   line_colon at ps h e = go (eqb (get_or text at 0) COLON) (eqb (get_or text at 0) LF) refl refl
     where
       go : (p q : Bool) → eqb (get_or text at 0) COLON ≡ p → eqb (get_or text at 0) LF ≡ q → get_or text at 0 ≡ COLON

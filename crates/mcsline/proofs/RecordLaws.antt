@@ -11,10 +11,12 @@ use lib.Seq.{take-append_seam, split_at, length-take-le}
 use Rattle.digits.specs.Digit.{hex, byte_sum}
 use Rattle.digits.proofs.Laws.{hex_long, total_end}
 use Rattle.mcsline.specs.Record.{COLON, Ending, ending_text, line_text, Record, Data, ExtendedLinearAddress, End, body_of, checksum, pairs_of, Row, record_text, AllBytes, Fit}
-use Rattle.mcsline.specs.Line.{Spelled, Pairs, Broken, line_spells, count_of, Is, Refuses, typed, parsed}
+use Rattle.mcsline.specs.Line.{line_spells, count_of, Parsed, typed, parsed}
 use Rattle.mcsline.proofs.TypeLaws.{Typing, as_data, as_end, as_upper, as_none, typing, typed_data, typed_end, typed_upper}
 use Rattle.mcsline.proofs.ShapeLaws.{parsed_broken, parsed_count, parsed_sum, parsed_typed}
 use Rattle.mcsline.proofs.TextLaws.{line_spelled, spelled_line}
+use Rattle.std.specs.Prelude.{Option, Some, None, Ok, Err}
+use Rattle.mcsline.specs.Types.{Reason, BadLine, BadSum, BadRecord}
 
 -- Bytes and sums.
 
@@ -84,20 +86,20 @@ pairs_long : (r : Record) → length (pairs_of r) ≡ count_of (pairs_of r) + 5
 unfolding pairs_of
 pairs_long r = let l : length (body_of r ++ checksum (body_of r) ∷ []) ≡ length (body_of r) + 1 = length-append (body_of r) (checksum (body_of r) ∷ []) in let b : length (body_of r) ≡ count_of (pairs_of r) + 4 = body_long r in omega arith
 
-pairs_typed : (r : Record) → Fit r → typed (pairs_of r) ≡ Is r
+pairs_typed : (r : Record) → Fit r → typed (pairs_of r) ≡ Ok r
 unfolding pairs_of body_of Fit
 pairs_typed (Data address bytes) h =
     let s = checksum (body_of (Data address bytes)) in
     let a : address / 256 * 256 + address % 256 ≡ address = omega arith in
     typed_data (pairs_of (Data address bytes)) refl (λ e. omega arith)
-    ∙ ap₂ (λ (x : ℕ) (y : List ℕ). Is (Data x y)) a (take-append_seam bytes (s ∷ []))
+    ∙ ap₂ (λ (x : ℕ) (y : List ℕ). Ok (Data x y)) a (take-append_seam bytes (s ∷ []))
 pairs_typed (ExtendedLinearAddress half) h =
     let a : half / 256 * 256 + half % 256 ≡ half = omega arith in
-    typed_upper (pairs_of (ExtendedLinearAddress half)) refl refl refl ∙ ap (λ (x : ℕ). Is (ExtendedLinearAddress x)) a
+    typed_upper (pairs_of (ExtendedLinearAddress half)) refl refl refl ∙ ap (λ (x : ℕ). Ok (ExtendedLinearAddress x)) a
 pairs_typed End h = typed_end (pairs_of End) refl refl refl
 
 -- a record's text is parsed to the record
-pub text_parsed : (r : Record) (e : Ending) → Fit r → parsed (record_text (Row r e)) ≡ Is r
+pub text_parsed : (r : Record) (e : Ending) → Fit r → parsed (record_text (Row r e)) ≡ Ok r
 unfolding record_text
 text_parsed r e h =
     parsed_typed (line_text (pairs_of r) e) (pairs_of r) (line_spelled (pairs_of r) e (pairs_bytes r h)) (pairs_long r) (pairs_sum r) ∙ pairs_typed r h
@@ -122,10 +124,10 @@ record_by r body s e h t =
 abbrev Makes : List ℕ → Record → Type 0
 Makes pairs r = (pairs ≡ pairs_of r) × Fit r
 
-is_same : {r q : Record} → Is r ≡ Is q → r ≡ q
+is_same : {r q : Record} → ◌≡◌ {A = Parsed} (Ok r) (Ok q) → r ≡ q
 is_same e = cc
 
-makes : (pairs : List ℕ) (r : Record) → AllBytes pairs → length pairs ≡ count_of pairs + 5 → byte_sum pairs % 256 ≡ 0 → typed pairs ≡ Is r → Makes pairs r
+makes : (pairs : List ℕ) (r : Record) → AllBytes pairs → length pairs ≡ count_of pairs + 5 → byte_sum pairs % 256 ≡ 0 → typed pairs ≡ Ok r → Makes pairs r
 unfolding AllBytes Fit body_of
 makes [] r h l t e = absurd (omega arith)
 makes (a ∷ []) r h l t e = absurd (omega arith)
@@ -143,7 +145,7 @@ makes (a ∷ b ∷ c ∷ d ∷ rest) r h l t e = go (typing (a ∷ b ∷ c ∷ d
     whole : a ∷ b ∷ c ∷ d ∷ rest ≡ (a ∷ b ∷ c ∷ d ∷ take a rest) ++ get_or rest a 0 ∷ []
     whole = ap (λ (x : List ℕ). a ∷ b ∷ c ∷ d ∷ x) parts
 
-    made : (q : Record) → a ∷ b ∷ c ∷ d ∷ take a rest ≡ body_of q → Fit q → Is q ≡ Is r → Makes (a ∷ b ∷ c ∷ d ∷ rest) r
+    made : (q : Record) → a ∷ b ∷ c ∷ d ∷ take a rest ≡ body_of q → Fit q → ◌≡◌ {A = Parsed} (Ok q) (Ok r) → Makes (a ∷ b ∷ c ∷ d ∷ rest) r
     made q f k i =
         rw (is_same i) at (let m : Makes (a ∷ b ∷ c ∷ d ∷ rest) q =
         (whole ∙ record_by q (a ∷ b ∷ c ∷ d ∷ take a rest) (get_or rest a 0) f (bytes_at rest a h.1.1.1.1) (rw whole at t), k) in m)
@@ -172,30 +174,30 @@ makes (a ∷ b ∷ c ∷ d ∷ rest) r h l t e = go (typing (a ∷ b ∷ c ∷ d
         let u : (get_or rest 0 0 * 256 + get_or rest 1 0) / 256 ≡ get_or rest 0 0 = omega arith in
         let v : (get_or rest 0 0 * 256 + get_or rest 1 0) % 256 ≡ get_or rest 1 0 = omega arith in
         made (ExtendedLinearAddress (get_or rest 0 0 * 256 + get_or rest 1 0)) (rw (z, o, p, q, u, v, two_of rest (omega arith)) refl) (omega arith) (sym f ∙ e)
-    go (as_none f) = let g : Refuses 16 ≡ Is r = sym f ∙ e in let z : ◌≡◌ {A = ℕ} 0 1 = cc in absurd (omega arith)
+    go (as_none f) = let g : ◌≡◌ {A = Parsed} (Err BadRecord) (Ok r) = sym f ∙ e in absurd cc
 
 -- a line that is parsed is the text of its record
-pub parsed_text : (line : List ℕ) (r : Record) → parsed line ≡ Is r → (e : Ending) × ((line ≡ record_text (Row r e)) × Fit r)
+pub parsed_text : (line : List ℕ) (r : Record) → parsed line ≡ Ok r → (e : Ending) × ((line ≡ record_text (Row r e)) × Fit r)
 unfolding record_text
 parsed_text line r p = spelled (line_spells line) refl
   where
-    refused : (number : ℕ) → parsed line ≡ Refuses number → (e : Ending) × ((line ≡ line_text (pairs_of r) e) × Fit r)
-    refused number q = let z : ◌≡◌ {A = ℕ} 0 1 = cc in absurd (omega arith)
+    refused : (reason : Reason) → parsed line ≡ Err reason → (e : Ending) × ((line ≡ line_text (pairs_of r) e) × Fit r)
+    refused reason q = absurd cc
 
-    summed : (pairs : List ℕ) (b : Bool) → line_spells line ≡ Pairs pairs → length pairs ≡ count_of pairs + 5 → eqb (byte_sum pairs % 256) 0 ≡ b → (e : Ending) × ((line ≡ line_text (pairs_of r) e) × Fit r)
+    summed : (pairs : List ℕ) (b : Bool) → line_spells line ≡ Some pairs → length pairs ≡ count_of pairs + 5 → eqb (byte_sum pairs % 256) 0 ≡ b → (e : Ending) × ((line ≡ line_text (pairs_of r) e) × Fit r)
     summed pairs true s n t =
         let text : (e : Ending) × ((line ≡ line_text pairs e) × AllBytes pairs) = spelled_line line pairs s in
         let m : Makes pairs r = makes pairs r text.1.1 n (eqb-true _ _ t) (sym (parsed_typed line pairs s n (eqb-true _ _ t)) ∙ p) in
         (text.0, (text.1.0 ∙ ap (λ (l : List ℕ). line_text l text.0) m.0, m.1))
-    summed pairs false s n t = refused 15 (parsed_sum line pairs s n (eqb-false _ _ t))
+    summed pairs false s n t = refused BadSum (parsed_sum line pairs s n (eqb-false _ _ t))
 
-    counted : (pairs : List ℕ) (b : Bool) → line_spells line ≡ Pairs pairs → eqb (length pairs) (count_of pairs + 5) ≡ b → (e : Ending) × ((line ≡ line_text (pairs_of r) e) × Fit r)
+    counted : (pairs : List ℕ) (b : Bool) → line_spells line ≡ Some pairs → eqb (length pairs) (count_of pairs + 5) ≡ b → (e : Ending) × ((line ≡ line_text (pairs_of r) e) × Fit r)
     counted pairs true s n = summed pairs (eqb (byte_sum pairs % 256) 0) s (eqb-true _ _ n) refl
-    counted pairs false s n = refused 14 (parsed_count line pairs s n)
+    counted pairs false s n = refused BadLine (parsed_count line pairs s n)
 
-    spelled : (s : Spelled) → line_spells line ≡ s → (e : Ending) × ((line ≡ line_text (pairs_of r) e) × Fit r)
-    spelled (Pairs pairs) s = counted pairs (eqb (length pairs) (count_of pairs + 5)) s refl
-    spelled Broken s = refused 14 (parsed_broken line s)
+    spelled : (s : Option (List ℕ)) → line_spells line ≡ s → (e : Ending) × ((line ≡ line_text (pairs_of r) e) × Fit r)
+    spelled (Some pairs) s = counted pairs (eqb (length pairs) (count_of pairs + 5)) s refl
+    spelled None s = refused BadLine (parsed_broken line s)
 
 -- A line has a colon, two characters for each pair and for the sum, and its end.
 pub summed_long : (pairs : List ℕ) (e : Ending) → length (line_text (pairs ++ checksum pairs ∷ []) e) ≡ 2 * length pairs + 3 + length (ending_text e)

@@ -11,9 +11,10 @@ use Rattle.base.specs.Question.{ask}
 use Rattle.digits.specs.Pairs.{pair_at, two_pairs_at, pairs_at}
 use Rattle.digits.proofs.Laws.{length_pairs, get_or_pairs, drop_pairs, take_pairs}
 use Rattle.mcsline.specs.Record.{Data, ExtendedLinearAddress, End}
-use Rattle.mcsline.specs.Line.{count_of, two_at, address_of, type_of, by_type, Parsed, Is, Refuses, typed}
+use Rattle.mcsline.specs.Line.{count_of, two_at, address_of, type_of, by_type, Parsed, typed}
 use Rattle.mcsline.specs.Place.{as_line}
-use Rattle.mcsline.specs.Types.{LineAnswer, DataLine, ExtendedLinearAddressLine, EndLine, LineRefused}
+use Rattle.mcsline.specs.Types.{Reason, BadRecord, CodeLine, DataLine, ExtendedLinearAddressLine, EndLine}
+use Rattle.std.specs.Prelude.{Result, Ok, Err}
 
 -- What record pairs make, case by case.
 module _ {A : Type 0} (d e u o : A) where
@@ -34,48 +35,48 @@ module _ {A : Type 0} (d e u o : A) where
   by_other t f g h = rw (ne_eqb t 0 f, ne_eqb t 1 g, ne_eqb t 4 h, by_type)
 
 module _ (pairs : List ℕ) where
-  typed_empty : type_of pairs ≡ 0 → count_of pairs ≡ 0 → typed pairs ≡ Refuses 16
+  typed_empty : type_of pairs ≡ 0 → count_of pairs ≡ 0 → typed pairs ≡ Err BadRecord
   unfolding typed ask
   typed_empty t n = rw t (by_data _ _ _ _ ∙ rw (lt-leb 1 (count_of pairs) (omega arith)) refl)
 
-  pub typed_data : type_of pairs ≡ 0 → (count_of pairs ≡ 0 → ⊥) → typed pairs ≡ Is (Data (address_of pairs) (take (count_of pairs) (drop 4 pairs)))
+  pub typed_data : type_of pairs ≡ 0 → (count_of pairs ≡ 0 → ⊥) → typed pairs ≡ Ok (Data (address_of pairs) (take (count_of pairs) (drop 4 pairs)))
   unfolding typed ask
   typed_data t n = rw t (by_data _ _ _ _ ∙ rw (le-leb 1 (count_of pairs) (omega arith)) refl)
 
-  typed_end_count : type_of pairs ≡ 1 → (count_of pairs ≡ 0 → ⊥) → typed pairs ≡ Refuses 16
+  typed_end_count : type_of pairs ≡ 1 → (count_of pairs ≡ 0 → ⊥) → typed pairs ≡ Err BadRecord
   unfolding typed ask
   typed_end_count t n = rw t (by_end _ _ _ _ ∙ rw (ne_eqb _ _ n) refl)
 
-  typed_end_address : type_of pairs ≡ 1 → count_of pairs ≡ 0 → (address_of pairs ≡ 0 → ⊥) → typed pairs ≡ Refuses 16
+  typed_end_address : type_of pairs ≡ 1 → count_of pairs ≡ 0 → (address_of pairs ≡ 0 → ⊥) → typed pairs ≡ Err BadRecord
   unfolding typed ask
   typed_end_address t n a = rw t (by_end _ _ _ _ ∙ rw (eq-eqb _ _ n, ne_eqb _ _ a) refl)
 
-  pub typed_end : type_of pairs ≡ 1 → count_of pairs ≡ 0 → address_of pairs ≡ 0 → typed pairs ≡ Is End
+  pub typed_end : type_of pairs ≡ 1 → count_of pairs ≡ 0 → address_of pairs ≡ 0 → typed pairs ≡ Ok End
   unfolding typed ask
   typed_end t n a = rw t (by_end _ _ _ _ ∙ rw (eq-eqb _ _ n, eq-eqb _ _ a) refl)
 
-  typed_other : (type_of pairs ≡ 0 → ⊥) → (type_of pairs ≡ 1 → ⊥) → (type_of pairs ≡ 4 → ⊥) → typed pairs ≡ Refuses 16
+  typed_other : (type_of pairs ≡ 0 → ⊥) → (type_of pairs ≡ 1 → ⊥) → (type_of pairs ≡ 4 → ⊥) → typed pairs ≡ Err BadRecord
   unfolding typed
   typed_other f g h = by_other _ _ _ _ (type_of pairs) f g h
 
-  typed_upper_count : type_of pairs ≡ 4 → (count_of pairs ≡ 2 → ⊥) → typed pairs ≡ Refuses 16
+  typed_upper_count : type_of pairs ≡ 4 → (count_of pairs ≡ 2 → ⊥) → typed pairs ≡ Err BadRecord
   unfolding typed ask
   typed_upper_count t n = rw t (by_upper _ _ _ _ ∙ rw (ne_eqb _ _ n) refl)
 
-  typed_upper_address : type_of pairs ≡ 4 → count_of pairs ≡ 2 → (address_of pairs ≡ 0 → ⊥) → typed pairs ≡ Refuses 16
+  typed_upper_address : type_of pairs ≡ 4 → count_of pairs ≡ 2 → (address_of pairs ≡ 0 → ⊥) → typed pairs ≡ Err BadRecord
   unfolding typed ask
   typed_upper_address t n a = rw t (by_upper _ _ _ _ ∙ rw (eq-eqb _ _ n, ne_eqb _ _ a) refl)
 
-  pub typed_upper : type_of pairs ≡ 4 → count_of pairs ≡ 2 → address_of pairs ≡ 0 → typed pairs ≡ Is (ExtendedLinearAddress (two_at pairs 4))
+  pub typed_upper : type_of pairs ≡ 4 → count_of pairs ≡ 2 → address_of pairs ≡ 0 → typed pairs ≡ Ok (ExtendedLinearAddress (two_at pairs 4))
   unfolding typed ask
   typed_upper t n a = rw t (by_upper _ _ _ _ ∙ rw (eq-eqb _ _ n, eq-eqb _ _ a) refl)
 
 -- Whatever pairs make, it is by one of these.
 pub data Typing (pairs : List ℕ) : Type 0 where
-  as_data : type_of pairs ≡ 0 → (count_of pairs ≡ 0 → ⊥) → typed pairs ≡ Is (Data (address_of pairs) (take (count_of pairs) (drop 4 pairs))) → Typing pairs
-  as_end : type_of pairs ≡ 1 → count_of pairs ≡ 0 → address_of pairs ≡ 0 → typed pairs ≡ Is End → Typing pairs
-  as_upper : type_of pairs ≡ 4 → count_of pairs ≡ 2 → address_of pairs ≡ 0 → typed pairs ≡ Is (ExtendedLinearAddress (two_at pairs 4)) → Typing pairs
-  as_none : typed pairs ≡ Refuses 16 → Typing pairs
+  as_data : type_of pairs ≡ 0 → (count_of pairs ≡ 0 → ⊥) → typed pairs ≡ Ok (Data (address_of pairs) (take (count_of pairs) (drop 4 pairs))) → Typing pairs
+  as_end : type_of pairs ≡ 1 → count_of pairs ≡ 0 → address_of pairs ≡ 0 → typed pairs ≡ Ok End → Typing pairs
+  as_upper : type_of pairs ≡ 4 → count_of pairs ≡ 2 → address_of pairs ≡ 0 → typed pairs ≡ Ok (ExtendedLinearAddress (two_at pairs 4)) → Typing pairs
+  as_none : typed pairs ≡ Err BadRecord → Typing pairs
 
 pub typing : (pairs : List ℕ) → Typing pairs
 typing pairs = go (eqb (type_of pairs) 0) (eqb (type_of pairs) 1) (eqb (type_of pairs) 4) refl refl refl
@@ -134,55 +135,55 @@ module _ (text : List ℕ) (at count : ℕ) where
 
 -- The same in the code's form, by the line's type.
 
-asked_line : (b : Bool) (p : Parsed) (end : ℕ) → as_line (ask b (Refuses 16) p) end ≡ ask b (LineRefused 16) (as_line p end)
+asked_line : (b : Bool) (p : Parsed) (end : ℕ) → as_line (ask b (Err BadRecord) p) end ≡ ask b (Err BadRecord) (as_line p end)
 unfolding as_line ask
 asked_line true p end = refl
 asked_line false p end = refl
 
 module _ (pairs : List ℕ) (end : ℕ) where
-  as_data_line : type_of pairs ≡ 0 → as_line (typed pairs) end ≡ ask (leb 1 (count_of pairs)) (LineRefused 16) (DataLine (address_of pairs) (length (take (count_of pairs) (drop 4 pairs))) end)
+  as_data_line : type_of pairs ≡ 0 → as_line (typed pairs) end ≡ ask (leb 1 (count_of pairs)) (Err BadRecord) (Ok (DataLine (address_of pairs) (length (take (count_of pairs) (drop 4 pairs))) end))
   unfolding typed as_line
   as_data_line t = rw t (ap (λ (p : Parsed). as_line p end) (by_data _ _ _ _) ∙ asked_line (leb 1 (count_of pairs)) _ end)
 
-  as_end_line : type_of pairs ≡ 1 → as_line (typed pairs) end ≡ ask (eqb (count_of pairs) 0) (LineRefused 16) (ask (eqb (address_of pairs) 0) (LineRefused 16) (EndLine end))
+  as_end_line : type_of pairs ≡ 1 → as_line (typed pairs) end ≡ ask (eqb (count_of pairs) 0) (Err BadRecord) (ask (eqb (address_of pairs) 0) (Err BadRecord) (Ok (EndLine end)))
   unfolding typed as_line
   as_end_line t =
       rw t
       (ap (λ (p : Parsed). as_line p end) (by_end _ _ _ _)
       ∙ asked_line (eqb (count_of pairs) 0) _ end
-      ∙ ap (λ (l : LineAnswer). ask (eqb (count_of pairs) 0) (LineRefused 16) l) (asked_line (eqb (address_of pairs) 0) _ end))
+      ∙ ap (λ (l : Result CodeLine Reason). ask (eqb (count_of pairs) 0) (Err BadRecord) l) (asked_line (eqb (address_of pairs) 0) _ end))
 
-  as_extended_address_line : type_of pairs ≡ 4 → as_line (typed pairs) end ≡ ask (eqb (count_of pairs) 2) (LineRefused 16) (ask (eqb (address_of pairs) 0) (LineRefused 16) (ExtendedLinearAddressLine (two_at pairs 4) end))
+  as_extended_address_line : type_of pairs ≡ 4 → as_line (typed pairs) end ≡ ask (eqb (count_of pairs) 2) (Err BadRecord) (ask (eqb (address_of pairs) 0) (Err BadRecord) (Ok (ExtendedLinearAddressLine (two_at pairs 4) end)))
   unfolding typed as_line
   as_extended_address_line t =
       rw t
       (ap (λ (p : Parsed). as_line p end) (by_upper _ _ _ _)
       ∙ asked_line (eqb (count_of pairs) 2) _ end
-      ∙ ap (λ (l : LineAnswer). ask (eqb (count_of pairs) 2) (LineRefused 16) l) (asked_line (eqb (address_of pairs) 0) _ end))
+      ∙ ap (λ (l : Result CodeLine Reason). ask (eqb (count_of pairs) 2) (Err BadRecord) l) (asked_line (eqb (address_of pairs) 0) _ end))
 
-module _ (text : List ℕ) (at count end kind address : ℕ) (counted : count ≡ pair_at text (at + 1)) (type : kind ≡ pair_at text (at + 7)) (addressed : address ≡ two_pairs_at text (at + 3)) where
-  pub data_typed : kind ≡ 0 → as_line (typed (line_pairs text at count)) end ≡ ask (leb 1 count) (LineRefused 16) (DataLine address count end)
+module _ (text : List ℕ) (at count end : ℕ) (counted : count ≡ pair_at text (at + 1)) where
+  pub data_typed : pair_at text (at + 7) ≡ 0 → as_line (typed (line_pairs text at count)) end ≡ ask (leb 1 count) (Err BadRecord) (Ok (DataLine (two_pairs_at text (at + 3)) count end))
   data_typed k =
-      as_data_line (line_pairs text at count) end (type_is text at count ∙ sym type ∙ k)
-      ∙ rw (long_is text at count counted, address_is text at count ∙ sym addressed, count_is text at count ∙ sym counted) refl
+      as_data_line (line_pairs text at count) end (type_is text at count ∙ k)
+      ∙ rw (long_is text at count counted, address_is text at count, count_is text at count ∙ sym counted) refl
 
-  pub end_typed : kind ≡ 1 → as_line (typed (line_pairs text at count)) end ≡ ask (eqb count 0) (LineRefused 16) (ask (eqb address 0) (LineRefused 16) (EndLine end))
+  pub end_typed : pair_at text (at + 7) ≡ 1 → as_line (typed (line_pairs text at count)) end ≡ ask (eqb count 0) (Err BadRecord) (ask (eqb (two_pairs_at text (at + 3)) 0) (Err BadRecord) (Ok (EndLine end)))
   end_typed k =
-      as_end_line (line_pairs text at count) end (type_is text at count ∙ sym type ∙ k)
-      ∙ rw (address_is text at count ∙ sym addressed, count_is text at count ∙ sym counted) refl
+      as_end_line (line_pairs text at count) end (type_is text at count ∙ k)
+      ∙ rw (address_is text at count, count_is text at count ∙ sym counted) refl
 
-  pub extended_typed : kind ≡ 4 → as_line (typed (line_pairs text at count)) end ≡ ask (eqb count 2) (LineRefused 16) (ask (eqb address 0) (LineRefused 16) (ExtendedLinearAddressLine (two_pairs_at text (at + 9)) end))
+  pub extended_typed : pair_at text (at + 7) ≡ 4 → as_line (typed (line_pairs text at count)) end ≡ ask (eqb count 2) (Err BadRecord) (ask (eqb (two_pairs_at text (at + 3)) 0) (Err BadRecord) (Ok (ExtendedLinearAddressLine (two_pairs_at text (at + 9)) end)))
   unfolding ask
   extended_typed k =
-      as_extended_address_line (line_pairs text at count) end (type_is text at count ∙ sym type ∙ k)
-      ∙ rw (address_is text at count ∙ sym addressed, count_is text at count ∙ sym counted) (go (eqb count 2) refl)
+      as_extended_address_line (line_pairs text at count) end (type_is text at count ∙ k)
+      ∙ rw (address_is text at count, count_is text at count ∙ sym counted) (go (eqb count 2) refl)
     where
-      go : (b : Bool) → eqb count 2 ≡ b → ask b (LineRefused 16) (ask (eqb address 0) (LineRefused 16) (ExtendedLinearAddressLine (two_at (line_pairs text at count) 4) end)) ≡ ask b (LineRefused 16) (ask (eqb address 0) (LineRefused 16) (ExtendedLinearAddressLine (two_pairs_at text (at + 9)) end))
+      go : (b : Bool) → eqb count 2 ≡ b → ask b (Err BadRecord) (ask (eqb (two_pairs_at text (at + 3)) 0) (Err BadRecord) (Ok (ExtendedLinearAddressLine (two_at (line_pairs text at count) 4) end))) ≡ ask b (Err BadRecord) (ask (eqb (two_pairs_at text (at + 3)) 0) (Err BadRecord) (Ok (ExtendedLinearAddressLine (two_pairs_at text (at + 9)) end)))
       go true h = rw (half_is text at count (let e : count ≡ 2 = eqb-true _ _ h in omega arith)) refl
       go false h = refl
 
-  pub other_typed : (kind ≡ 0 → ⊥) → (kind ≡ 1 → ⊥) → (kind ≡ 4 → ⊥) → as_line (typed (line_pairs text at count)) end ≡ LineRefused 16
+  pub other_typed : (pair_at text (at + 7) ≡ 0 → ⊥) → (pair_at text (at + 7) ≡ 1 → ⊥) → (pair_at text (at + 7) ≡ 4 → ⊥) → as_line (typed (line_pairs text at count)) end ≡ Err BadRecord
   unfolding as_line
   other_typed f g h =
-      let t : type_of (line_pairs text at count) ≡ kind = type_is text at count ∙ sym type in
+      let t : type_of (line_pairs text at count) ≡ pair_at text (at + 7) = type_is text at count in
       ap (λ (p : Parsed). as_line p end) (typed_other (line_pairs text at count) (λ z. f (sym t ∙ z)) (λ z. g (sym t ∙ z)) (λ z. h (sym t ∙ z)))
