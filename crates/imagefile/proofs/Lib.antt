@@ -1,3 +1,4 @@
+pub mod StartLaws
 pub mod FieldLaws
 pub mod TextLaws
 pub mod FormLaws

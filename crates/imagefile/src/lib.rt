@@ -133,6 +133,7 @@ fn is_text(file: &[u8]) -> bool
 
 // What a file is: a BIT file by its first 13 bytes, text where no byte is above 7F, else plain binary; or refusal 5, at
 // the first field of a BIT file that is not the one to come there, whole.
+#[tactic(auto, unfolding(crate::specs::Imagefile::form_answer, crate::specs::Imagefile::plain_form, base::specs::Question::ask), using(base::proofs::Laws::gives, framing::proofs::Laws::starts_length))]
 pub fn form(file: &[u8]) -> Result<FileForm, Refusal>
     ensures { Gives form_numbers result (form_answer file.now) }
 {
