@@ -87,6 +87,14 @@ pub in_range : (chip : List ℕ) (place count : ℕ) (bytes : List ℕ) → plac
 unfolding overwrite_in_range ask
 in_range chip place count bytes h = rw (le-leb (place + count) (length chip) h) refl
 
+-- So do bytes that take a part's place.
+pub part_over : (chip : List ℕ) (place count : ℕ) (bytes part : List ℕ) → place + count ≤ length chip → length bytes ≡ count → part ≡ bytes →
+    take place chip ++ (part ++ drop (place + count - place) (drop place chip)) ≡ overwrite_in_range chip place count bytes
+part_over chip place count bytes part fits long e =
+    let n : place + count - place ≡ length bytes = omega arith in
+    rw e (ap (λ (l : List ℕ). take place chip ++ (bytes ++ l)) (ap (λ (k : ℕ). drop k (drop place chip)) n ∙ drop-drop (length bytes) place chip))
+    ∙ sym (in_range chip place count bytes fits)
+
 -- Output that is written part after part: the next part stands after those that fill the front.
 pub front_on : (done buffer : List ℕ) (place count : ℕ) (bytes : List ℕ) → length done ≡ place → length bytes ≡ count → place + count ≤ length buffer →
     overwrite_in_range (front_filled done buffer) place count bytes ≡ front_filled (done ++ bytes) buffer
@@ -146,13 +154,19 @@ cleared_at (o ∷ old) (b ∷ bytes) (suc i) e h = cleared_at old bytes i (omega
 pub erased_at : (count i : ℕ) → i < count → get_or (erased count) i 0 ≡ 0xFF
 erased_at count i h = get_or-replicate count i 0xFF 0 h
 
+-- a span's answer: done, or refused
+abbrev pub yes : Result (Unit {0}) Refusal
+yes = Ok tt
+
+abbrev pub no : Result (Unit {0}) Refusal
+no = refused NoRoom 0
+
 -- A span that is not refused lies within the chip,
-pub room : (chip_length place count : ℕ) → flash_answer chip_length place count ≡ Ok tt → place + count ≤ chip_length
+pub room : (chip_length place count : ℕ) → flash_answer chip_length place count ≡ yes → place + count ≤ chip_length
 unfolding flash_answer ask
 room chip_length place count e = go (leb (place + count) chip_length) refl e
   where
-    go : (b : Bool) → leb (place + count) chip_length ≡ b → ask b (refused NoRoom 0) (Ok tt) ≡ Ok tt → place + count ≤ chip_length
-    unfolding ask
+    go : (b : Bool) → leb (place + count) chip_length ≡ b → ask b no yes ≡ yes → place + count ≤ chip_length
     go true p q = leb-true (place + count) chip_length p
     go false p q = let z : ◌≡◌ {A = ℕ} 0 1 = cc in absurd (omega arith)
 
@@ -161,7 +175,6 @@ pub stays : (chip : List ℕ) (place count : ℕ) (bytes : List ℕ) (r : Refusa
 unfolding flash_answer overwrite_in_range ask
 stays chip place count bytes r e = go (leb (place + count) (length chip)) e
   where
-    go : (b : Bool) → ask b (refused NoRoom 0) (Ok tt) ≡ Err r → chip ≡ ask b chip (overwrite chip place bytes)
-    unfolding ask
+    go : (b : Bool) → ask b no yes ≡ Err r → chip ≡ ask b chip (overwrite chip place bytes)
     go true q = let z : ◌≡◌ {A = ℕ} 0 1 = cc in absurd (omega arith)
     go false q = refl

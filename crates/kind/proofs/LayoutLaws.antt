@@ -37,8 +37,17 @@ update_length_range length update_place update_length e =
     let b = asked _ _ _ _ a.1 false_true in
     (eqb-true _ _ a.0, leb-true _ _ b.0, leb-true _ _ b.1)
 
+abbrev Checked : Type 0
+Checked = Result (Unit {0}) Refusal
+
+abbrev yes : Checked
+yes = Ok tt
+
+abbrev no : Reason → ℕ → Checked
+no = refused
+
 -- what a layout's answer comes to for one who asks more
-unfoldable pub on_layout {ℓ} : {A : Type ℓ} → (Reason → ℕ → A) → A → Result (Unit {0}) Refusal → A
+unfoldable pub on_layout {ℓ} : {A : Type ℓ} → (Reason → ℕ → A) → A → Checked → A
 on_layout refused rest (Ok allowed) = rest
 on_layout refused rest (Err r) = refused r.reason r.place
 
@@ -47,17 +56,14 @@ pub by_layout {ℓ} : {A : Type ℓ} (refused : Reason → ℕ → A) (rest : A)
 unfolding layout_answer ask_layout on_layout ask
 by_layout refused rest layout = go (chip_length_allowed layout.chip_length) (update_place_allowed layout.chip_length layout.update_place) (update_length_allowed layout.chip_length layout.update_place layout.update_length)
   where
-    no : Reason → Result (Unit {0}) Refusal
-    no reason = Err (record { reason = reason; place = 0 })
-
-    go : (a b c : Bool) → on_layout refused rest (ask a (no BadChipLength) (ask b (no BadUpdatePlace) (ask c (no BadUpdateLength) (Ok tt)))) ≡ ask a (refused BadChipLength 0) (ask b (refused BadUpdatePlace 0) (ask c (refused BadUpdateLength 0) rest))
+    go : (a b c : Bool) → on_layout refused rest (ask a (no BadChipLength 0) (ask b (no BadUpdatePlace 0) (ask c (no BadUpdateLength 0) yes))) ≡ ask a (refused BadChipLength 0) (ask b (refused BadUpdatePlace 0) (ask c (refused BadUpdateLength 0) rest))
     go true true true = refl
     go true true false = refl
     go true false c = refl
     go false b c = refl
 
 -- An allowed layout had a yes to each question.
-pub allowed_asks : (layout : Layout) → layout_answer layout ≡ Ok tt →
+pub allowed_asks : (layout : Layout) → layout_answer layout ≡ yes →
     (chip_length_allowed layout.chip_length ≡ true) × (update_place_allowed layout.chip_length layout.update_place ≡ true) × (update_length_allowed layout.chip_length layout.update_place layout.update_length ≡ true)
 unfolding layout_answer ask_layout
 allowed_asks layout e =
@@ -66,16 +72,16 @@ allowed_asks layout e =
     let c = asked _ _ _ _ b.1 (refused_allowed BadUpdateLength) in
     (a.0, b.0, c.0)
   where
-    refused_allowed : (reason : Reason) → refused {A = Unit {0}} reason 0 ≡ Ok tt → ⊥
+    refused_allowed : (reason : Reason) → no reason 0 ≡ yes → ⊥
     refused_allowed reason q = let z : ◌≡◌ {A = ℕ} 0 1 = cc in omega arith
 
 -- Questions 1 to 4 go by the answer to 1 to 3,
-pub numbers_by_layout : (layout : Layout) (n : ℕ) (answer : Result (Unit {0}) Refusal) → layout_answer layout ≡ answer → on_layout refused (ask (image_length_allowed layout.update_length n) (refused BadImageLength 0) (Ok tt)) answer ≡ numbers_answer layout n
+pub numbers_by_layout : (layout : Layout) (n : ℕ) (answer : Checked) → layout_answer layout ≡ answer → on_layout no (ask (image_length_allowed layout.update_length n) (no BadImageLength 0) yes) answer ≡ numbers_answer layout n
 unfolding numbers_answer ask_numbers
-numbers_by_layout layout n answer e = rw (sym e) (by_layout refused _ layout)
+numbers_by_layout layout n answer e = rw (sym e) (by_layout no _ layout)
 
 -- and whatever is asked after them goes by theirs.
-pub by_numbers {ℓ} : {A : Type ℓ} (refused : Reason → ℕ → A) (rest : A) (layout : Layout) (n : ℕ) (answer : Result (Unit {0}) Refusal) → numbers_answer layout n ≡ answer → on_layout refused rest answer ≡ ask_numbers refused layout n rest
+pub by_numbers {ℓ} : {A : Type ℓ} (refused : Reason → ℕ → A) (rest : A) (layout : Layout) (n : ℕ) (answer : Checked) → numbers_answer layout n ≡ answer → on_layout refused rest answer ≡ ask_numbers refused layout n rest
 unfolding numbers_answer ask_numbers on_layout ask
 by_numbers {A = A} refused rest layout n answer e =
     ap (on_layout refused rest) (sym e)
@@ -83,20 +89,17 @@ by_numbers {A = A} refused rest layout n answer e =
     ∙ go (layout_answer layout) (image_length_allowed layout.update_length n)
     ∙ by_layout refused _ layout
   where
-    no : Reason → ℕ → Result (Unit {0}) Refusal
-    no reason place = Err (record { reason = reason; place = place })
-
-    go : (l : Result (Unit {0}) Refusal) (b : Bool) → on_layout refused rest (on_layout no (ask b (no BadImageLength 0) (Ok tt)) l) ≡ on_layout refused (ask b (refused BadImageLength 0) rest) l
+    go : (l : Checked) (b : Bool) → on_layout refused rest (on_layout no (ask b (no BadImageLength 0) yes) l) ≡ on_layout refused (ask b (refused BadImageLength 0) rest) l
     go (Ok allowed) true = refl
     go (Ok allowed) false = refl
     go (Err r) b = refl
 
 -- Numbers that are allowed had a yes to each question.
-pub numbers_asked : (layout : Layout) (n : ℕ) → numbers_answer layout n ≡ Ok tt → (layout_answer layout ≡ Ok tt) × (image_length_allowed layout.update_length n ≡ true)
+pub numbers_asked : (layout : Layout) (n : ℕ) → numbers_answer layout n ≡ yes → (layout_answer layout ≡ yes) × (image_length_allowed layout.update_length n ≡ true)
 unfolding on_layout ask
 numbers_asked layout n e = go (layout_answer layout) (image_length_allowed layout.update_length n) refl refl (numbers_by_layout layout n (layout_answer layout) refl ∙ e)
   where
-    go : (l : Result (Unit {0}) Refusal) (b : Bool) → layout_answer layout ≡ l → image_length_allowed layout.update_length n ≡ b → on_layout refused (ask b (refused BadImageLength 0) (Ok tt)) l ≡ Ok tt → (layout_answer layout ≡ Ok tt) × (image_length_allowed layout.update_length n ≡ true)
+    go : (l : Checked) (b : Bool) → layout_answer layout ≡ l → image_length_allowed layout.update_length n ≡ b → on_layout no (ask b (no BadImageLength 0) yes) l ≡ yes → (layout_answer layout ≡ yes) × (image_length_allowed layout.update_length n ≡ true)
     go (Ok allowed) true p q h = (p, q)
     go (Ok allowed) false p q h = let z : ◌≡◌ {A = ℕ} 0 1 = cc in absurd (omega arith)
     go (Err r) b p q h = let z : ◌≡◌ {A = ℕ} 0 1 = cc in absurd (omega arith)
