@@ -1,11 +1,15 @@
 -- Laws of scanning packets: what one header does, and that k data words are k steps.
-use Prim.Native.Nat.{ℕ, zero, suc, ◌+◌, ◌-◌, ◌*◌, ◌<◌, ◌≤◌}
+use Prim.Native.Nat.{ℕ, zero, suc, ◌+◌, ◌-◌, ◌*◌, ◌<◌, ◌≤◌, min}
 use mathlib.Core.Path.{◌≡◌, refl, sym, ap, subst, ◌∙◌}
 use mathlib.Core.Bool.{Bool, true, false}
-use mathlib.Core.Option.{Option, some, none}
+use mathlib.Core.Option.{some, none}
+use mathlib.Core.Option as maybe
+use Rattle.std.specs.Prelude.{Option, Some, None}
 use mathlib.Core.List.{List, [], ◌∷◌}
 use native.Mathlib.Nat.{add-zero, sub-zero, sub_self}
 use native.Mathlib.Omega.{arith}
+use borrow.Author.Rules.{rules}
+use Rattle.std.specs.Ordering.{ord_min, nat_cmp}
 use borrow.Author.Tests.{ne_eqb}
 use lib.Dec.{eqb}
 use lib.ListN.{length, get_or, drop, length-drop}
@@ -15,10 +19,14 @@ use Rattle.base.specs.Question.{ask}
 use Rattle.packets.specs.Header.{head_of, effect_of, CMD, WBSTAR}
 use Rattle.packets.specs.Trace.{Before, other, Mode, header, payload, mode_of, after_header, Trace, wrote, desync, iprog, faulty, short, trace, last_wbstar, target, finish, list_of, trace_from, finish_from, writes_from, nth_write}
 use Rattle.scanner.specs.Scan.{scanned, before_of, scanned_from, scanned_by, scan_of, scanner_from, scanner_after_header, scanner_stopped, scanner_at_write, scanner_after_packet, scanner_at_end, InBoundsBy, bytes_left, StepKeeps, ScanResult, ScanReached, ScanFinished}
-use Rattle.scanner.specs.Types.{Effect, GoesOn, Desync, EffectIprog, Finish, FinishEnded, FinishIprog, FinishShort, WriteAnswer, WriteFound, NoWrite, Scanner, Status, Going, AtWrite, AtEnd, AtIprog, AtFault, AtShort, FinishFault}
+use Rattle.scanner.specs.Types.{Effect, GoesOn, Desync, EffectIprog, Finish, FinishEnded, FinishIprog, FinishShort, Write, Scanner, Status, Going, AtWrite, AtEnd, AtIprog, AtFault, AtShort, FinishFault}
 use Rattle.packets.proofs.Laws.{trace_header, trace_fault, trace_data, trace_desync, trace_iprog}
 use Rattle.base.proofs.Laws.{nil_of_length}
 use Rattle.framing.proofs.Laws.{words_cons, words_on, word_after, room}
+
+-- the smaller of two numbers, in the words of the library's `min`
+pub least : (a b r : ℕ) → r ≡ ord_min nat_cmp a b → r ≡ min a b
+least a b r e = search rules
 
 -- One header.
 
@@ -243,9 +251,9 @@ scanned_finish (faulty p) skip writes wbstar h = refl
 scanned_finish short skip writes wbstar h = refl
 
 -- the write that a scanner came to, if any
-unfoldable pub scanned_write : ScanResult → WriteAnswer
-scanned_write (ScanReached write left) = WriteFound write
-scanned_write (ScanFinished end) = NoWrite
+unfoldable pub scanned_write : ScanResult → Option Write
+scanned_write (ScanReached write left) = Some write
+scanned_write (ScanFinished end) = None
 
 pub scanned_nth : (t : Trace) (i writes wbstar : ℕ) → scanned_write (scanned t i writes wbstar) ≡ nth_write (list_of t) i
 unfolding scanned_write scanned nth_write list_of
@@ -262,7 +270,7 @@ unfolding trace list_of
 list_short [] p m = omega arith
 list_short (x ∷ ws) p (header before) = go (after_header (head_of x) before) refl (λ m. list_short ws (p + 4) m)
   where
-    go : (o : Option Mode) → after_header (head_of x) before ≡ o → ((m : Mode) → length (list_of (trace ws (p + 4) m)) ≤ length ws) → length (list_of (trace (x ∷ ws) p (header before))) ≤ suc (length ws)
+    go : (o : maybe.Option Mode) → after_header (head_of x) before ≡ o → ((m : Mode) → length (list_of (trace ws (p + 4) m)) ≤ length ws) → length (list_of (trace (x ∷ ws) p (header before))) ≤ suc (length ws)
     go none e ih = rw (e, trace) (omega arith)
     go (some m) e ih = rw (e, trace) (let h : length (list_of (trace ws (p + 4) m)) ≤ length ws = ih m in omega arith)
 list_short (x ∷ ws) p (payload register left) = go (effect_of register x) refl (list_short ws (p + 4) (mode_of left register other))

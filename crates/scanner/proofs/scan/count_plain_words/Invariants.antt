@@ -1,14 +1,9 @@
--- `scan::count_plain_words` meets its contract.
-use Prim.Native.Nat.{ℕ, ◌-◌, ◌≤◌, ◌<◌}
-use mathlib.Core.Path.{◌≡◌}
-use lib.ListN.{get_or, drop}
+-- `scan::count_plain_words` meets its contract. The invariant: the data words so far let the reading go on.
+use Rattle.std.proofs.Common.{ℕ, ◌<◌, ◌≡◌, get_or, drop}
 use Rattle.framing.specs.Words.{words}
 use Rattle.packets.specs.Header.{effect_of}
 use Rattle.scanner.specs.Types.{GoesOn}
 use Rattle.scanner.proofs.scan.count_plain_words.Given as goal
 
 abbrev pub invariant-loop-i : goal.invariant-loop-i
-invariant-loop-i l = (l.i ≤ l.most) × ((k : ℕ) → k < l.i → effect_of l.register (get_or (words (drop l.at l.s)) k 0) ≡ GoesOn)
-
-abbrev pub decreases-loop-i : goal.decreases-loop-i
-decreases-loop-i l = l.most - l.i
+invariant-loop-i l = (k : ℕ) → k < l.i → effect_of l.register (get_or (words (drop l.at l.s)) k 0) ≡ GoesOn

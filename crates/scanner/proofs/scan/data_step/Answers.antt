@@ -5,7 +5,7 @@ use native.Mathlib.Omega.{arith}
 use lib.ListN.{length, drop}
 use Rattle.framing.specs.Words.{words}
 use Rattle.framing.proofs.Laws.{room}
-use Rattle.scanner.proofs.ScanLaws.{data_short, data_past, data_reached, data_end}
+use Rattle.scanner.proofs.ScanLaws.{least, data_short, data_past, data_reached, data_end}
 use Rattle.scanner.proofs.scan.data_step.Goals as goal
 use Rattle.scanner.proofs.scan.data_step.Goals.{After-count_plain_words-run}
 
@@ -18,7 +18,7 @@ facts : (c : After-count_plain_words-run) →
     × (c.count_plain_words-run.result ≤ c.min-most.result)
 facts c =
     let e = c.words_from.ensures in
-    (sym e, omega (arith, e, room c.args.s.now c.args.w.at), c.min-here.ensures, c.min-most.ensures, c.count_plain_words-run.ensures.within)
+    (sym e, omega (arith, e, room c.args.s.now c.args.w.at), least _ _ _ c.min-here.ensures, least _ _ _ c.min-most.ensures, c.count_plain_words-run.ensures.within)
 
 pub scan_end-requires : goal.scan_end-requires
 scan_end-requires c = let f = facts (goal.at.scan_end-requires c).After-count_plain_words-run in (omega arith, c.requires.2)
