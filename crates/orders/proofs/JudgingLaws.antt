@@ -9,7 +9,6 @@ use lib.ListN.{length}
 use Rattle.base.specs.Question.{ask}
 use Rattle.base.proofs.Laws.{both_true}
 use Rattle.comparison.specs.Comparison.{differs}
-use Rattle.comparison.specs.Internal.{comparison}
 use Rattle.orders.specs.Orders.{Order, erase, program, look, operation_of}
 use Rattle.orders.specs.Carried.{expected_bytes}
 use Rattle.orders.specs.Replies.{read, asks_for}
@@ -24,7 +23,7 @@ asked_for what count reply_kind lent e = let b = both_true (eqb reply_kind what)
 unfoldable pub on_operation : Operation → List ℕ → ℕ → List ℕ → Judgement
 on_operation (Erase place count) expected reply_kind bytes = judged_done reply_kind (length bytes)
 on_operation (Program place count) expected reply_kind bytes = judged_done reply_kind (length bytes)
-on_operation (Look place count) expected reply_kind bytes = ask (asks_for read count reply_kind (length bytes)) NotAsked (judged_look (comparison (differs place bytes expected)))
+on_operation (Look place count) expected reply_kind bytes = ask (asks_for read count reply_kind (length bytes)) NotAsked (judged_look (differs place bytes expected))
 
 pub judged_by : (order : Order) (reply_kind : ℕ) (bytes : List ℕ) (o : Operation) → operation_of order ≡ o → on_operation o (expected_bytes order) reply_kind bytes ≡ judged order reply_kind bytes
 unfolding on_operation operation_of expected_bytes judged

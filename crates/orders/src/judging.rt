@@ -37,6 +37,7 @@ fn is_as_asked(what: u32, count: usize, reply_kind: u32, lent: usize) -> bool
 }
 
 // Question 8, for the reply to an erase or program.
+#[tactic(auto, unfolding(crate::specs::Judging::judged_done, base::specs::Question::ask))]
 fn judge_done(reply_kind: u32, lent: usize) -> Judgement
     ensures { result ≡ judged_done reply_kind lent }
 {
@@ -47,6 +48,7 @@ fn judge_done(reply_kind: u32, lent: usize) -> Judgement
 }
 
 // Question 9, for the first address at which a look read another byte than expected, if any.
+#[tactic(auto, unfolding(crate::specs::Judging::judged_look))]
 fn judge_look(difference: Option<usize>) -> Judgement
     ensures { result ≡ judged_look difference }
 {

@@ -1,11 +1,7 @@
 -- `orders_before` meets its contract: the counts of the phases, added up.
-use Prim.Native.Nat.{◌-◌, ◌≤◌}
 use mathlib.Core.Path.{◌≡◌}
 use Rattle.orders.specs.Table.{count_before}
 use Rattle.orders.proofs.orders_before.Given as goal
 
 abbrev pub invariant-loop-i : goal.invariant-loop-i
-invariant-loop-i l = (l.i ≤ l.phase) × (l.orders ≡ count_before l.layout l.image_length l.i)
-
-abbrev pub decreases-loop-i : goal.decreases-loop-i
-decreases-loop-i l = l.phase - l.i
+invariant-loop-i l = l.orders ≡ count_before l.layout l.image_length l.i

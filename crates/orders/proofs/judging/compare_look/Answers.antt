@@ -5,7 +5,6 @@ use mathlib.Core.List.{List}
 use native.Mathlib.Omega.{arith}
 use lib.ListN.{length}
 use Rattle.comparison.specs.Comparison.{padded, differs}
-use Rattle.comparison.specs.Internal.{comparison}
 use Rattle.orders.proofs.judging.compare_look.Goals as goal
 
 pub carried_bytes-requires : goal.carried_bytes-requires
@@ -21,4 +20,4 @@ pub returns : goal.returns
 returns c =
     let args = c.args in
     let bytes = args.bytes.now in
-    c.compare.ensures ∙ ap (λ (expected : List ℕ). comparison (differs args.place bytes (padded (length bytes) expected))) c.carried_bytes.ensures
+    c.compare.ensures ∙ ap (λ (expected : List ℕ). differs args.place bytes (padded (length bytes) expected)) c.carried_bytes.ensures
