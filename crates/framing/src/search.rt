@@ -33,19 +33,24 @@ fn past_clear(s: &[u8], from: usize) -> usize
 
 // The first place at or after `from` where four bytes read AA 99 55 66, at any byte. Where they do
 // not, the fourth says how far on the next place is at which they can: four bytes, mostly.
+// Stays: document 01, "Language forms", holds it: a loop that yields the sync place by break, and in it a comparison of bytes
+// that is left by a label.
 pub fn find_sync(s: &[u8], from: usize) -> Option<usize>
     requires { from ≤ length s.now }
     ensures { result ≡ find (drop from s.now) from }
 {
     let mut at = from;
-    loop {
+    'search: loop {
         at = past_clear(s, at);
         if s.len() - at < 4 {
-            return None;
+            break 'search None;
         }
-        if s[at..].starts_with(&SYNC) {
-            return Some(at);
+        for i in 0..4 {
+            if s[at + i] != SYNC[i] {
+                at += skip_after(s[at + 3]);
+                continue 'search;
+            }
         }
-        at += skip_after(s[at + 3]);
+        break 'search Some(at);
     }
 }

@@ -1,39 +1,65 @@
--- `framing::find_sync` meets its contract.
-use Rattle.std.proofs.Common.{Bool, false, ℕ, zero, suc, ◌+◌, ◌-◌, ◌≤◌, ◌<◌, ◌≡◌, refl, sym, ◌∙◌, List, length, get_or, take, drop, length-drop, add-zero, arith}
-use Rattle.std.proofs.lemmas.List.{take_rest}
-use Rattle.std.proofs.Math.Dec.{eqb}
-use Rattle.std.specs.List.{starts_with}
+-- `framing::find_sync` meets its contract. The outer loop's invariant: the search from here finds what the search from `from` finds. The inner one's: the bytes compared so far are those of the sync word.
+use Prim.Native.Nat.{ℕ, zero, suc, ◌+◌, ◌-◌, ◌≤◌, ◌<◌}
+use mathlib.Core.Path.{◌≡◌, refl, sym, ◌∙◌}
+use native.Mathlib.Nat.{add-zero}
+use mathlib.Core.Bool.{false}
+use mathlib.Core.List.{List}
+use native.Mathlib.Omega.{arith}
+use borrow.Author.Count.{below_more}
+use borrow.Author.Rules.{rules}
+use lib.ListN.{length, get_or, drop, length-drop}
 use Rattle.framing.specs.Search.{sync_bytes, begins_with, find}
-use Rattle.framing.proofs.SearchLaws.{find_here, find_short, find_past, differs_at, starts_begins}
+use Rattle.framing.proofs.SearchLaws.{find_here, find_short, find_past, differs_at, stands_at}
 use Rattle.framing.proofs.search.find_sync.Goals as goal
+use Rattle.framing.proofs.search.find_sync.Goals.{After-past_clear-at}
 
--- what the slice's `starts_with` says of a sync word
-begins : (s : List ℕ) (at : ℕ) {found : Bool} → found ≡ starts_with eqb (take (length s - at) (drop at s)) sync_bytes → begins_with sync_bytes (drop at s) ≡ found
-begins s at e = sym (rw take_rest at e ∙ starts_begins sync_bytes (drop at s))
+pub search-init : goal.search-init
+search-init c = (search rules, refl)
 
--- no sync word begins here, nor at the places passed over
-passed : (s : List ℕ) (at r : ℕ) → begins_with sync_bytes (drop at s) ≡ false →
-    ((i : ℕ) → 1 ≤ i → i < r → get_or s (at + 3) 0 ≡ get_or sync_bytes (3 - i) 0 → ⊥) → r ≤ 4 →
+pub past_clear-at-requires : goal.past_clear-at-requires
+past_clear-at-requires c = c.search.invariant.0
+
+-- after the blocks that were passed the search finds what it would have found before them
+onward : (c : After-past_clear-at) →
+    find (drop c.past_clear-at.result c.args.s.now) c.past_clear-at.result ≡ find (drop c.args.from c.args.s.now) c.args.from
+onward c = c.past_clear-at.ensures.2 ∙ c.search.invariant.1
+
+pub loop-i-init : goal.loop-i-init
+loop-i-init c = (refl, λ k h. absurd (omega arith))
+
+-- no sync word begins at the place compared, nor at those passed over
+passed : (s : List ℕ) (at j r : ℕ) → j < 4 → (get_or s (at + j) 0 ≡ get_or sync_bytes j 0 → ⊥) → r ≤ 4 →
+    ((i : ℕ) → 1 ≤ i → i < r → get_or s (at + 3) 0 ≡ get_or sync_bytes (3 - i) 0 → ⊥) →
     (i : ℕ) → i < r → begins_with sync_bytes (drop (at + i) s) ≡ false
-passed s at r d h hr zero hi = rw add-zero d
-passed s at r d h hr (suc i) hi =
+passed s at j r hj d hr h zero hi = differs_at s (at + 0) j hj (rw add-zero d)
+passed s at j r hj d hr h (suc i) hi =
     let e : at + suc i + (3 - suc i) ≡ at + 3 = omega arith in
     differs_at s (at + suc i) (3 - suc i) (omega arith) (rw e (h (suc i) (omega arith) hi))
 
-pub returns-then-s-at-lt4 : goal.returns-then-s-at-lt4
-returns-then-s-at-lt4 c = sym (find_short _ _ (simp length-drop c.if-s-at-lt4.true)) ∙ c.past_clear-at.ensures.2 ∙ c.loop-at.invariant.1
-
-pub returns-then-starts_with : goal.returns-then-starts_with
-returns-then-starts_with c =
-    let at = c.past_clear-at.result in
-    let here = begins c.args.s.now at c.starts_with.ensures.value ∙ c.if-starts_with.true in
-    sym (find_here (drop at c.args.s.now) at here) ∙ c.past_clear-at.ensures.2 ∙ c.loop-at.invariant.1
-
-pub loop-at-preserved : goal.loop-at-preserved
-loop-at-preserved c =
+pub search-preserved : goal.search-preserved
+search-preserved c =
+    let at = c.loop-i.at in
     let s = c.args.s.now in
-    let at = c.past_clear-at.result in
-    let r = c.skip_after-at.result in
-    let on : at + r ≤ length s = omega arith in
-    let differs = begins s at c.starts_with.ensures.value ∙ c.if-starts_with.false in
-    (on, sym (find_past s r at on (passed s at r differs c.skip_after-at.ensures.passed c.skip_after-at.ensures.range.1)) ∙ c.past_clear-at.ensures.2 ∙ c.loop-at.invariant.1)
+    let moved : at + c.skip_after-at.result ≤ length s = omega arith in (
+      moved,
+      sym (find_past s c.skip_after-at.result at moved
+          (passed s at c.loop-i.i c.skip_after-at.result (omega arith) c.if-s-at.true c.skip_after-at.ensures.range.1 c.skip_after-at.ensures.passed))
+          ∙ rw c.loop-i.invariant.0 (onward (goal.at.search-preserved c).After-past_clear-at),
+    )
+
+pub loop-i-preserved : goal.loop-i-preserved
+loop-i-preserved c = (
+  c.loop-i.invariant.0,
+  below_more _ _ c.loop-i.invariant.1 c.if-s-at.false,
+)
+
+pub returns-then-s-at-lt4 : goal.returns-then-s-at-lt4
+returns-then-s-at-lt4 c =
+    sym (find_short _ _ (simp length-drop c.if-s-at-lt4.true)) ∙ onward (goal.at.returns-then-s-at-lt4 c).After-past_clear-at
+
+pub returns-after-loop-i : goal.returns-after-loop-i
+returns-after-loop-i c =
+    let at = c.loop-i.at in
+    let s = c.args.s.now in
+    sym (find_here (drop at s) at (stands_at s at (omega arith) (λ j h. c.loop-i.invariant.1 j (omega arith))))
+    ∙ rw c.loop-i.invariant.0 (onward (goal.at.returns-after-loop-i c).After-past_clear-at)
