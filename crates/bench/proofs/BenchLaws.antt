@@ -7,10 +7,12 @@ use mathlib.Core.List.{List}
 use native.Mathlib.Omega.{arith}
 use lib.ListN.{length, take, drop, length-take, drop_of_length-le}
 use lib.Seq.{ext_get_or}
+use Rattle.std.specs.Prelude.{Result, Ok, Err}
+use Rattle.base.specs.Refusal.{refused}
 use Rattle.base.specs.Question.{ask}
 use Rattle.kind.specs.Layout.{chip_length_allowed, image_length_allowed, page, segment, switch_at, update_place_allowed, update_length_allowed, ask_layout}
 use Rattle.bootreader.specs.Image.{alone_case}
-use Rattle.bench.specs.Types.{Outcome, Loaded, OutcomeIprog, Stuck, Layout, State, StartAnswer, Started, StartRefused, Operation, Erase, Program, Look}
+use Rattle.bench.specs.Types.{Reason, BadChipLength, BadUpdatePlace, BadUpdateLength, BadImageLength, Refusal, Outcome, Loaded, OutcomeIprog, Stuck, Layout, State, Operation, Erase, Program, Look}
 use Rattle.kind.proofs.Laws.{chip_length_range, update_place_range}
 use Rattle.flash.specs.Flash.{erased, span, overwrite_in_range, cleared, after_program}
 use Rattle.kind.specs.Kind.{Kind}
@@ -27,7 +29,7 @@ use Rattle.bench.specs.Bench.{span_allows, damage_allowed, cut_allowed, cut_in}
 use Rattle.orders.proofs.Laws.{phases, orders_length}
 use Rattle.updater.proofs.Laws.{fits_says, running_says, first_fits, index_at, current_order_law, orders_left}
 use Rattle.effects.proofs.Laws.{Blank, order_within, span_size, Reaches, reached, chip_all, chip_length_law, chip_blank, current_within, numbers_at}
-use Rattle.base.proofs.Laws.{below_or_not}
+use Rattle.base.proofs.Laws.{asked, below_or_not}
 use Rattle.bench.proofs.MixtureLaws.{allows_enough, allows_elsewhere, allows_swap}
 
 -- QUESTION 10 as it can be asked before the run: the bytes that are not FF are the chip's own in the erase of segment 0, and ON in the program of the switch word.
@@ -213,25 +215,42 @@ cut_at begun image cut state opens fit comes = record {
     to_cut : (chip : List ℕ) → chip_after spi begun.layout image k chip ≡ chip_after spi begun.layout image cut chip
     to_cut chip = ⊎_elim (ap (λ (i : ℕ). chip_after spi begun.layout image i chip)) (λ e. chip_all spi begun.layout image chip k cut e.0 e.1) which
 
+-- A question that `?` takes up: a no is the answer, and a yes goes on.
+module _ {A : Type 0} (b : Bool) (reason : Reason) where
+  pub no_said : (r : Refusal) (rest : Result A Refusal) → ask b (refused reason 0) (Ok tt) ≡ Err r → ask b (refused reason 0) rest ≡ Err r
+  unfolding ask
+  no_said r rest e = go b e
+    where
+      go : (b : Bool) → ◌≡◌ {A = Result (Unit {0}) Refusal} (ask b (refused reason 0) (Ok tt)) (Err r) → ask b (refused reason 0) rest ≡ Err r
+      go true e = cc
+      go false e = cc
+
+  pub yes_said : (done : Unit {0}) → ask b (refused reason 0) (Ok tt) ≡ Ok done → b ≡ true
+  unfolding ask
+  yes_said done e = (asked b _ _ _ e (λ q. cc)).0
+
 -- THE START. What a start's answer comes to for one who asks more,
-unfoldable pub on_start {ℓ} : {A : Type ℓ} → (ℕ → ℕ → A) → A → StartAnswer → A
-on_start refused rest (Started state) = rest
-on_start refused rest (StartRefused number place) = refused number place
+unfoldable pub on_start : {A : Type 0} → Result A Refusal → Result State Refusal → Result A Refusal
+on_start rest (Ok state) = rest
+on_start rest (Err r) = Err r
 
 -- and whatever is asked of a run goes by it.
-pub by_start {ℓ} : {A : Type ℓ} (kind : Kind) (refused : ℕ → ℕ → A) (rest : A) (layout : Layout) (image : List ℕ) → on_start refused rest (start_answer kind layout image) ≡ ask_run kind refused layout image rest
+pub by_start : {A : Type 0} (kind : Kind) (rest : Result A Refusal) (layout : Layout) (image : List ℕ) → on_start rest (start_answer kind layout image) ≡ ask_run kind refused layout image rest
 unfolding start_answer ask_run ask_layout ask alone_case on_start
-by_start kind refused rest layout image =
+by_start {A} kind rest layout image =
     go (chip_length_allowed layout.chip_length) (update_place_allowed layout.chip_length layout.update_place) (update_length_allowed layout.chip_length layout.update_place layout.update_length) (image_length_allowed layout.update_length (length image)) (kind.alone image)
   where
-    read : (o : Outcome) → on_start refused rest (alone_case StartRefused (λ sync end writes. Started (first layout (length image))) o) ≡ alone_case refused (λ sync end writes. rest) o
+    begun : Result State Refusal
+    begun = Ok (first layout (length image))
+
+    read : (o : Outcome) → on_start rest (alone_case refused (λ sync end writes. begun) o) ≡ alone_case refused (λ sync end writes. rest) o
     read (Loaded sync end writes jumped) = refl
     read (OutcomeIprog place) = refl
     read (Stuck place) = refl
 
     go : (a b c d : Bool) (o : Outcome) →
-        on_start refused rest (ask a (StartRefused 1 0) (ask b (StartRefused 2 0) (ask c (StartRefused 3 0) (ask d (StartRefused 4 0) (alone_case StartRefused (λ sync end writes. Started (first layout (length image))) o)))))
-        ≡ ask a (refused 1 0) (ask b (refused 2 0) (ask c (refused 3 0) (ask d (refused 4 0) (alone_case refused (λ sync end writes. rest) o))))
+        on_start rest (ask a (refused BadChipLength 0) (ask b (refused BadUpdatePlace 0) (ask c (refused BadUpdateLength 0) (ask d (refused BadImageLength 0) (alone_case refused (λ sync end writes. begun) o)))))
+        ≡ ask a (refused BadChipLength 0) (ask b (refused BadUpdatePlace 0) (ask c (refused BadUpdateLength 0) (ask d (refused BadImageLength 0) (alone_case refused (λ sync end writes. rest) o))))
     go true true true true o = read o
     go true true true false o = refl
     go true true false d o = refl

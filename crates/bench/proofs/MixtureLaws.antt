@@ -32,12 +32,6 @@ mixture_swap (a ∷ old) [] new = refl
 mixture_swap [] (b ∷ ordered) new = refl
 mixture_swap [] [] new = refl
 
--- From a place on: the byte there, and the rest.
-pub mixture_from : (old ordered new : List ℕ) (i : ℕ) → i < length old → i < length ordered → i < length new →
-    mixture (drop i old) (drop i ordered) (drop i new) ≡ (mixes (get_or old i 0) (get_or ordered i 0) (get_or new i 0) && mixture (drop (suc i) old) (drop (suc i) ordered) (drop (suc i) new))
-unfolding mixture
-mixture_from old ordered new i a b c = rw (drop-cons old i 0 a, drop-cons ordered i 0 b, drop-cons new i 0 c) refl
-
 -- Every byte is a mixture,
 mixture_bytes : (old ordered new : List ℕ) → length old ≡ length new → length ordered ≡ length new → mixture old ordered new ≡ true →
     (i : ℕ) → i < length new → mixes (get_or old i 0) (get_or ordered i 0) (get_or new i 0) ≡ true

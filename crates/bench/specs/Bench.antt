@@ -1,14 +1,13 @@
 -- The bench (document 01's term): a run on a chip's bytes, cut after k orders. Document 01, "Orders of one run" and question 10.
 use Rattle.std.specs.Prelude.{ℕ, Bool, true, false, ◌&&◌, List, [], ◌∷◌, eqb, leb, ltb, length, take, drop, Result, Ok, Err}
 use Rattle.std.specs.Int.Bits.{bit_and, bit_xor}
-use Rattle.base.specs.Types.{BadDamage, Refusal}
 use Rattle.base.specs.Refusal.{refused}
 use Rattle.base.specs.Answer.{Numbered, in_numbers}
 use Rattle.base.specs.Question.{ask}
 use Rattle.kind.specs.Layout.{segment, layout_of}
 use Rattle.flash.specs.Flash.{span}
 use Rattle.kind.specs.Kind.{Kind}
-use Rattle.bench.specs.Types.{Layout, State}
+use Rattle.bench.specs.Types.{BadDamage, Refusal, Layout, State}
 use Rattle.updater.specs.State.{state_numbers}
 use Rattle.orders.specs.Orders.{Order, erase, program, look, orders}
 use Rattle.effects.specs.Effects.{order_place, obeyed_span, leaves}

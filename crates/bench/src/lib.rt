@@ -13,7 +13,7 @@ ghost use Rattle.orders.specs.Orders.{orders};
 ghost use Rattle.updater.specs.State.{position, first, fits};
 ghost use Rattle.effects.specs.Progress.{chip_after, state_at};
 ghost use Rattle.bench.specs.Bench.{mixture, span_allows, cut_allowed, cut_in, bench_numbers, bench_answer, bench_output, bench_layout};
-ghost use Rattle.base.specs.Types.{BadDamage};
+ghost use Rattle.bench.specs.Types.{BadDamage};
 
 use base::refusal::{Reason, Refusal, ask};
 use effects::{obey_orders, state_after};

@@ -1,13 +1,12 @@
 -- The report of an image file. Document 01, "Proof cases": the program `bootreport`.
 use Rattle.std.specs.Prelude.{ℕ, List, leb, length, Result, Ok, Err}
-use Rattle.base.specs.Types.{NoRoom, Refusal}
 use Rattle.base.specs.Refusal.{number_of}
 use Rattle.kind.specs.Spi.{spi}
 use Rattle.base.specs.Question.{ask}
 use Rattle.mcs.specs.Reading.{read_text}
 use Rattle.kind.specs.Layout.{layout_of}
 use Rattle.builder.specs.Builder.{built_chip, build_answer}
-use Rattle.filereport.specs.Types.{Layout}
+use Rattle.filereport.specs.Types.{NoRoom, Refusal, Layout}
 use Rattle.reportlines.specs.Reportlines.{refused_line}
 use Rattle.report.specs.Boot.{chip_report}
 use Rattle.report.specs.Refusal.{written}

@@ -3,8 +3,7 @@ use Rattle.std.specs.Prelude.{ℕ, ◌≡◌, false, List, None, Some, Ok, Err}
 use Rattle.kind.specs.Kind.{Kind}
 use Rattle.starts.specs.Starts.{start_answer}
 use Rattle.updater.specs.Run.{reply_answer}
-use Rattle.base.specs.Types.{Refusal}
-use Rattle.life.specs.Types.{Layout, State, RefusedReply}
+use Rattle.life.specs.Types.{Refusal, Layout, State, RefusedReply}
 use Rattle.life.specs.Life.{Run, World, found, starts, replies, cuts, next}
 
 pub record EventsKeep (kind : Kind) : Type 0 where

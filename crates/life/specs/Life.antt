@@ -5,8 +5,7 @@ use Rattle.flash.specs.Flash.{span}
 use Rattle.chip.specs.Cut.{MayLeave}
 use Rattle.kind.specs.Kind.{Kind}
 use Rattle.chip.specs.Chip.{switch_word, golden_area, LoadsAlone, Loads, WellFormed, ContainsAt}
-use Rattle.base.specs.Types.{Refusal}
-use Rattle.life.specs.Types.{Layout, State, Reply, Next, Stopped, RefusedReply}
+use Rattle.life.specs.Types.{Refusal, Layout, State, Reply, Next, Stopped, RefusedReply}
 use Rattle.orders.specs.Orders.{Order, erase, program, look, orders}
 use Rattle.updater.specs.State.{running, first, ended, current_order}
 use Rattle.comparison.specs.Comparison.{differs}

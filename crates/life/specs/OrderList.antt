@@ -1,9 +1,8 @@
 -- DEMAND 2 of a run: it gives exactly the orders of the list, in order, until done or stopped.
 use Rattle.std.specs.Prelude.{ℕ, ◌+◌, ◌-◌, ◌<◌, ◌≤◌, ◌≡◌, ◌⊎◌, true, false, List, [], length, get_or, Ok}
-use Rattle.base.specs.Types.{SwitchNotErased, UpdateDiffers, SwitchNotOn}
 use Rattle.base.specs.Refusal.{number_of}
 use Rattle.kind.specs.Kind.{Kind}
-use Rattle.life.specs.Types.{Layout, State, Next, Stopped}
+use Rattle.life.specs.Types.{SwitchNotErased, UpdateDiffers, SwitchNotOn, Layout, State, Next, Stopped}
 use Rattle.orders.specs.Table.{count, count_before, total}
 use Rattle.orders.specs.Orders.{Order, erase, program, look, orders}
 use Rattle.updater.specs.State.{position, first, after, ended, running, fits, current_order}

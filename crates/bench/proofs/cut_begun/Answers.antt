@@ -3,15 +3,17 @@ use Prim.Native.Nat.{ℕ}
 use mathlib.Core.Path.{◌≡◌, refl, sym, ap, ap₂, ◌∙◌}
 use mathlib.Core.List.{List}
 use lib.ListN.{length, drop}
+use Rattle.std.specs.Prelude.{Result, Ok}
 use Rattle.base.specs.Question.{ask}
+use Rattle.base.specs.Refusal.{refused}
 use Rattle.kind.specs.Spi.{spi}
-use Rattle.bench.specs.Types.{Layout, Reached}
+use Rattle.bench.specs.Types.{BadDamage, Refusal, Layout, State}
 use Rattle.orders.specs.Orders.{Order, orders}
 use Rattle.updater.specs.State.{first}
 use Rattle.effects.specs.Progress.{chip_after}
 use Rattle.bench.specs.Bench.{cut_allowed, cut_in, bench_output}
 use Rattle.updater.proofs.Laws.{fits_says, fits_own}
-use Rattle.bench.proofs.BenchLaws.{CutAt, cut_at}
+use Rattle.bench.proofs.BenchLaws.{CutAt, cut_at, no_said, yes_said}
 use Rattle.bench.proofs.cut_begun.Goals as goal
 use Rattle.bench.proofs.cut_begun.Goals.{After-damage_allowed, After-state_after-reached}
 
@@ -41,10 +43,10 @@ damage_allowed-requires c =
     let s = stops (goal.at.damage_allowed-requires c).After-state_after-reached in
     (s.fit, ap (λ (l : Layout). l.chip_length) s.same ∙ c.requires.2)
 
-pub returns-then-not-damage_allowed : goal.returns-then-not-damage_allowed
-unfolding ask bench_output
-returns-then-not-damage_allowed c = record {
-  answer = rw (sym (asks (goal.at.returns-then-not-damage_allowed c).After-damage_allowed) ∙ c.if-not-damage_allowed.true) refl;
+pub returns-in_err-ask : goal.returns-in_err-ask
+unfolding bench_output
+returns-in_err-ask c = record {
+  answer = sym (no_said _ BadDamage _ _ (ap (λ (b : Bool). ask b (refused BadDamage 0) (Ok tt)) (sym (asks (goal.at.returns-in_err-ask c).After-damage_allowed)) ∙ sym c.ask.ensures ∙ c.in_err-ask.was));
   output = refl;
 }
 
@@ -55,7 +57,7 @@ write_damage-requires c =
     let s = stops (goal.at.write_damage-requires c).After-state_after-reached in (
       s.fit,
       ap (λ (l : Layout). l.chip_length) s.same ∙ c.requires.2 ∙ sym (ap (λ (l : List ℕ). length l) o.ensures ∙ s.long a.chip.now c.requires.2),
-      ap₂ (λ (l : List Order) (h : List ℕ). cut_allowed l h a.damage.now) s.left o.ensures ∙ sym (asks (goal.at.write_damage-requires c).After-damage_allowed) ∙ c.if-not-damage_allowed.false,
+      ap₂ (λ (l : List Order) (h : List ℕ). cut_allowed l h a.damage.now) s.left o.ensures ∙ sym (asks (goal.at.write_damage-requires c).After-damage_allowed) ∙ yes_said _ BadDamage _ (sym c.ask.ensures ∙ c.in_ok-ask.was),
     )
 
 pub returns : goal.returns
@@ -63,6 +65,6 @@ unfolding ask bench_output
 returns c =
     let a = c.args in
     let s = stops (goal.at.returns c).After-state_after-reached in record {
-      answer = rw (sym (asks (goal.at.returns c).After-damage_allowed) ∙ c.if-not-damage_allowed.false) (ap Reached s.is);
+      answer = rw (sym (asks (goal.at.returns c).After-damage_allowed) ∙ yes_said _ BadDamage _ (sym c.ask.ensures ∙ c.in_ok-ask.was)) (ap (λ (x : State). Ok x) s.is);
       output = c.write_damage.ensures ∙ ap₂ (λ (l : List Order) (h : List ℕ). cut_in l h a.damage.now) s.left c.obey_orders.ensures;
     }

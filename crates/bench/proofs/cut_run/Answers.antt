@@ -5,11 +5,12 @@ use mathlib.Core.Bool.{true}
 use mathlib.Core.List.{List}
 use lib.ListN.{length, drop}
 use Rattle.base.proofs.Laws.{gives}
-use Rattle.base.specs.Refusal.{bad_damage}
+use Rattle.std.specs.Prelude.{Result, Ok, Err}
+use Rattle.base.specs.Refusal.{refused}
 use Rattle.base.specs.Question.{ask}
 use Rattle.kind.specs.Spi.{spi}
 use Rattle.kind.specs.Layout.{layout_of}
-use Rattle.bench.specs.Types.{Layout, State, StartAnswer, Started, BenchAnswer, Reached, BenchRefused}
+use Rattle.bench.specs.Types.{BadDamage, Refusal, Layout, State}
 use Rattle.chip.proofs.Laws.{spi_lawful}
 use Rattle.orders.specs.Orders.{orders}
 use Rattle.updater.specs.State.{first, fits}
@@ -22,15 +23,15 @@ use Rattle.bench.proofs.BenchLaws.{on_start, by_start}
 use Rattle.bench.proofs.cut_run.Goals as goal
 
 -- What is asked of a run that is started, in a layout.
-abbrev cut_answer : Layout → List ℕ → List ℕ → ℕ → List ℕ → BenchAnswer
-cut_answer layout chip image cut damage = ask (cut_allowed (drop cut (orders spi layout image)) (chip_after spi layout image cut chip) damage) (BenchRefused bad_damage 0) (Reached (state_at layout image cut))
+abbrev cut_answer : Layout → List ℕ → List ℕ → ℕ → List ℕ → Result State Refusal
+cut_answer layout chip image cut damage = ask (cut_allowed (drop cut (orders spi layout image)) (chip_after spi layout image cut chip) damage) (refused BadDamage 0) (Ok (state_at layout image cut))
 
-by-begun : (layout : Layout) (chip image : List ℕ) (cut : ℕ) (damage : List ℕ) (answer : StartAnswer) → start_answer spi layout image ≡ answer → on_start BenchRefused (cut_answer layout chip image cut damage) answer ≡ bench_answer spi layout chip image cut damage
+by-begun : (layout : Layout) (chip image : List ℕ) (cut : ℕ) (damage : List ℕ) (answer : Result State Refusal) → start_answer spi layout image ≡ answer → on_start (cut_answer layout chip image cut damage) answer ≡ bench_answer spi layout chip image cut damage
 unfolding bench_answer
-by-begun layout chip image cut damage answer e = ap (on_start BenchRefused (cut_answer layout chip image cut damage)) (sym e) ∙ by_start spi BenchRefused (cut_answer layout chip image cut damage) layout image
+by-begun layout chip image cut damage answer e = ap (on_start (cut_answer layout chip image cut damage)) (sym e) ∙ by_start spi (cut_answer layout chip image cut damage) layout image
 
 -- The state of a run that is started: its layout, and that it is the first.
-begun_first : (layout : Layout) (image : List ℕ) (state : State) → start_answer spi layout image ≡ Started state → (state.layout ≡ layout) × (state ≡ first state.layout (length image)) × (fits state (length image) ≡ true)
+begun_first : (layout : Layout) (image : List ℕ) (state : State) → start_answer spi layout image ≡ Ok state → (state.layout ≡ layout) × (state ≡ first state.layout (length image)) × (fits state (length image) ≡ true)
 begun_first layout image state e =
     let o = opened spi spi_lawful layout image state e in
     let l : state.layout ≡ layout = ap (λ (s : State). s.layout) o.begins in (
@@ -41,17 +42,17 @@ begun_first layout image state e =
 
 pub cut_begun-requires : goal.cut_begun-requires
 cut_begun-requires c =
-    let b = begun_first c.layout-layout.result c.args.image.now _ (sym c.start-started.ensures.same ∙ c.in-Started.is) in
+    let b = begun_first c.layout-layout.result c.args.image.now _ (sym c.start-begun.ensures.same ∙ c.in_ok-begun.was) in
     (b.1, b.2, ap (λ (l : Layout). l.chip_length) (b.0 ∙ c.layout-layout.ensures))
 
-pub returns-in-Started : goal.returns-in-Started
+pub returns : goal.returns
 unfolding on_start
-returns-in-Started c =
+returns c =
     let a = c.args in
     let chip = a.chip.now in
     let image = a.image.now in
     let damage = a.damage.now in
-    let e = sym c.start-started.ensures.same ∙ c.in-Started.is in
+    let e = sym c.start-begun.ensures.same ∙ c.in_ok-begun.was in
     let b = begun_first c.layout-layout.result image _ e in
     let l = c.layout-layout.ensures in
     let r = c.cut_begun.ensures.answer
@@ -60,20 +61,19 @@ returns-in-Started c =
     ∙ ap (λ (x : Layout). bench_answer spi x chip image a.cut damage) l in
     record {
       answer = gives bench_numbers _ _ r;
-      output = c.cut_begun.ensures.output ∙ ap₂ (λ (y : BenchAnswer) (x : Layout). bench_output y spi x chip image a.cut damage) r (b.0 ∙ l);
+      output = c.cut_begun.ensures.output ∙ ap₂ (λ (y : Result State Refusal) (x : Layout). bench_output y spi x chip image a.cut damage) r (b.0 ∙ l);
     }
 
-pub returns-in-Refused : goal.returns-in-Refused
+pub returns-in_err-begun : goal.returns-in_err-begun
 unfolding on_start bench_output
-returns-in-Refused c =
+returns-in_err-begun c =
     let a = c.args in
     let chip = a.chip.now in
     let image = a.image.now in
     let damage = a.damage.now in
-    let e = sym c.start-started.ensures.same ∙ c.in-Refused.is in
-    let l = c.layout-layout.ensures in
-    let r = by-begun c.layout-layout.result chip image a.cut damage _ e ∙ ap (λ (x : Layout). bench_answer spi x chip image a.cut damage) l in
+    let e = sym c.start-begun.ensures.same ∙ c.in_err-begun.was in
+    let r = by-begun c.layout-layout.result chip image a.cut damage _ e ∙ ap (λ (x : Layout). bench_answer spi x chip image a.cut damage) c.layout-layout.ensures in
     record {
       answer = gives bench_numbers _ _ r;
-      output = ap (λ (y : BenchAnswer). bench_output y spi (layout_of (length chip) a.update_place a.update_length) chip image a.cut damage) r;
+      output = ap (λ (y : Result State Refusal). bench_output y spi (layout_of (length chip) a.update_place a.update_length) chip image a.cut damage) r;
     }
