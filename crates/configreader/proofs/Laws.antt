@@ -7,6 +7,7 @@ use native.Mathlib.Nat.{zero-add, add_assoc, mod-eq_of_lt}
 use native.Mathlib.Omega.{arith}
 use lib.ListN.{length, get_or, drop, length-drop}
 use lib.Seq.{get_or-drop}
+use Rattle.std.proofs.Common.{Option, Some, None}
 use Rattle.framing.specs.Search.{begins_with, find}
 use Rattle.framing.specs.Words.{words, word_at}
 use Rattle.base.specs.Question.{ask}
@@ -14,7 +15,7 @@ use Rattle.packets.specs.Header.{register_ok, type1_of, head_of, effect_of}
 use Rattle.packets.specs.Trace.{other, header, mode_of, after_header, trace, finish, finish_from, writes_from, contents}
 use Rattle.configreader.specs.Configreader.{read_at, search_from, jump, read_from, read_alone, listed}
 use Rattle.configreader.specs.Theorems.{Placement, Locality, twelve_bytes, ShortestReading, FaultsWithin, Skipping, Jumping}
-use Rattle.configreader.specs.Types.{Found, SyncAt, NoSync, FinishEnded, FinishIprog, Write, Loaded}
+use Rattle.configreader.specs.Types.{FinishEnded, FinishIprog, Write, Loaded}
 use Rattle.framing.proofs.Laws.{find_here, find_past, find_within, stands_at, words_cons, room}
 use Rattle.configreader.proofs.ReadingLaws.{Proper, read_ended, read_jump, search_found, search_none, jump_on, proper, alone_parts}
 use Rattle.configreader.proofs.PlacementLaws.{find_moved, looked_to, moved_finish, finish_moved, ended_after}
@@ -23,7 +24,7 @@ pub use Rattle.configreader.proofs.ReadingLaws.{proper, alone_parts}
 unfoldable pub use Rattle.configreader.proofs.ReadingLaws.{Proper}
 
 -- A sync word that is found and packets that end are a reading that is Loaded.
-pub loads_from : (left : ℕ) (jumped : Bool) (s : List ℕ) (from sync end writes : ℕ) → find (drop from s) from ≡ SyncAt sync → finish_from s (sync + 4) ≡ FinishEnded end writes →
+pub loads_from : (left : ℕ) (jumped : Bool) (s : List ℕ) (from sync end writes : ℕ) → find (drop from s) from ≡ Some sync → finish_from s (sync + 4) ≡ FinishEnded end writes →
     read_from left jumped s from ≡ Loaded sync end writes jumped
 loads_from left jumped s from sync end writes here ended = search_found (jump left s) jumped s from sync here ∙ read_ended (jump left s) jumped s sync end writes ended
 
@@ -37,7 +38,7 @@ module _ (s t : List ℕ) (d from sync end writes : ℕ) (jumped : Bool)
     (alone : read_from 0 jumped s from ≡ Loaded sync end writes jumped)
     (fits : d + end ≤ length t)
     (stands : (i : ℕ) → from ≤ i → i < end → get_or t (d + i) 0 ≡ get_or s i 0) where
-  found : find (drop from s) from ≡ SyncAt sync
+  found : find (drop from s) from ≡ Some sync
   found = (alone_parts jumped s from sync end writes jumped alone).0
 
   ended : finish_from s (sync + 4) ≡ FinishEnded end writes
@@ -49,7 +50,7 @@ module _ (s t : List ℕ) (d from sync end writes : ℕ) (jumped : Bool)
   moved : (finish_from t (d + (sync + 4)) ≡ FinishEnded (d + end) writes) × (writes_from t (d + (sync + 4)) ≡ map (moved_write d) (writes_from s (sync + 4)))
   unfolding looked_to moved_finish
   moved =
-      finish_moved s t d (sync + 4) (FinishEnded end writes) ended (λ q. let z : ◌≡◌ {A = ℕ} 0 1 = cc in omega arith) fits
+      finish_moved s t d (sync + 4) (FinishEnded end writes) ended (λ q. cc) fits
       (λ i a b. stands i (let w = bounds in omega arith) b)
 
   -- PLACEMENT: whatever else t holds, a search that begins there loads it, d further on.
@@ -60,7 +61,7 @@ module _ (s t : List ℕ) (d from sync end writes : ℕ) (jumped : Bool)
       let here : from + (sync - from) ≡ sync = omega arith in
       let there : d + from + (sync - from) ≡ d + sync = omega arith in
       search_found (jump left t) after t (d + from) (d + sync)
-      (find_moved (drop from s) (drop (d + from) t) from (d + from) (sync - from) (found ∙ ap SyncAt (sym here)) (simp length-drop (omega arith)) same ∙ ap SyncAt there)
+      (find_moved (drop from s) (drop (d + from) t) from (d + from) (sync - from) (found ∙ ap Some (sym here)) (simp length-drop (omega arith)) same ∙ ap Some there)
       ∙ read_ended (jump left t) after t (d + sync) (d + end) writes (rw (add_assoc d sync 4) moved.0)
     where
       same : (j : ℕ) → j < sync - from + 4 → get_or (drop (d + from) t) j 0 ≡ get_or (drop from s) j 0
@@ -137,11 +138,11 @@ faults_within = record {
 pub search_past : Skipping
 search_past left jumped t at k l h = go (find (drop (at + k) t) (at + k)) refl
   where
-    go : (f : Found) → find (drop (at + k) t) (at + k) ≡ f → read_from left jumped t at ≡ read_from left jumped t (at + k)
-    go (SyncAt sync) e =
+    go : (f : Option ℕ) → find (drop (at + k) t) (at + k) ≡ f → read_from left jumped t at ≡ read_from left jumped t (at + k)
+    go (Some sync) e =
         search_found (jump left t) jumped t at sync (find_past t k at l h ∙ e)
         ∙ sym (search_found (jump left t) jumped t (at + k) sync e)
-    go NoSync e =
+    go None e =
         search_none (jump left t) jumped t at (find_past t k at l h ∙ e)
         ∙ sym (search_none (jump left t) jumped t (at + k) e)
 
@@ -163,7 +164,7 @@ header_jumps to p rest = refl
 -- JUMP: the first sync word, then the words 30020001, a byte's place, 30008001 and 0000000F: the search goes on at that place.
 pub jumps_to : Jumping
 jumps_to left jumped t from k to none here l a b c d far near =
-    let e : find (drop from t) from ≡ SyncAt (from + k) = find_past t k from (omega arith) none ∙ find_here (drop (from + k) t) (from + k) (stands_at t (from + k) (omega arith) here) in
+    let e : find (drop from t) from ≡ Some (from + k) = find_past t k from (omega arith) none ∙ find_here (drop (from + k) t) (from + k) (stands_at t (from + k) (omega arith) here) in
     let p₁ : from + k + 4 + 4 ≡ from + k + 8 = omega arith in
     let p₂ : from + k + 8 + 4 ≡ from + k + 12 = omega arith in
     let p₃ : from + k + 12 + 4 ≡ from + k + 16 = omega arith in

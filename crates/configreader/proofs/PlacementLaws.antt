@@ -7,19 +7,20 @@ use mathlib.Core.List.{List, [], ◌∷◌, map}
 use native.Mathlib.Nat.{add-zero, add_assoc}
 use native.Mathlib.Omega.{arith}
 use lib.ListN.{length, get_or, drop}
+use Rattle.std.proofs.Common.{Some}
 use Rattle.framing.specs.Search.{sync_bytes, begins_with, find}
 use Rattle.framing.specs.Words.{words}
 use Rattle.packets.specs.Header.{head_of, effect_of}
 use Rattle.packets.specs.Trace.{Before, other, Mode, header, payload, mode_of, after_header, Trace, trace, last_wbstar, finish, list_of, finish_from, writes_from}
-use Rattle.configreader.specs.Types.{SyncAt, Effect, GoesOn, Desync, EffectIprog, Finish, FinishEnded, FinishIprog, FinishFault, FinishShort, Write}
+use Rattle.configreader.specs.Types.{Effect, GoesOn, Desync, EffectIprog, Finish, FinishEnded, FinishIprog, FinishFault, FinishShort, Write}
 use Rattle.base.proofs.Laws.{false_of}
 use Rattle.framing.proofs.Laws.{starts_at, starts_all, find_here, find_next, find_within, word_of_law, word_after, room}
 use Rattle.packets.proofs.Laws.{trace_none, trace_header, trace_fault, trace_data, trace_desync, trace_iprog}
 
 -- The search: where the same bytes stand, the sync word is found at the same distance.
-pub find_moved : (xs ys : List ℕ) (p q i : ℕ) → find xs p ≡ SyncAt (p + i) → i + 4 ≤ length ys → ((j : ℕ) → j < i + 4 → get_or ys j 0 ≡ get_or xs j 0) → find ys q ≡ SyncAt (q + i)
+pub find_moved : (xs ys : List ℕ) (p q i : ℕ) → find xs p ≡ Some (p + i) → i + 4 ≤ length ys → ((j : ℕ) → j < i + 4 → get_or ys j 0 ≡ get_or xs j 0) → find ys q ≡ Some (q + i)
 unfolding find
-find_moved [] ys p q i e l h = let z : ◌≡◌ {A = ℕ} 0 1 = cc in absurd (omega arith)
+find_moved [] ys p q i e l h = cc
 find_moved (x ∷ xs) [] p q i e l h = absurd (omega arith)
 find_moved (x ∷ xs) (y ∷ ys) p q i e l h = go (begins_with sync_bytes (x ∷ xs)) refl (λ i. find_moved xs ys (p + 1) (q + 1) i)
   where
@@ -27,23 +28,23 @@ find_moved (x ∷ xs) (y ∷ ys) p q i e l h = go (begins_with sync_bytes (x ∷
     whole = let w : (p ≤ p + i) × (p + i + 4 ≤ p + length (x ∷ xs)) = find_within (x ∷ xs) p (p + i) e in omega arith
 
     go : (b : Bool) → begins_with sync_bytes (x ∷ xs) ≡ b →
-        ((i : ℕ) → find xs (p + 1) ≡ SyncAt (p + 1 + i) → i + 4 ≤ length ys → ((j : ℕ) → j < i + 4 → get_or ys j 0 ≡ get_or xs j 0) → find ys (q + 1) ≡ SyncAt (q + 1 + i)) →
-        find (y ∷ ys) q ≡ SyncAt (q + i)
+        ((i : ℕ) → find xs (p + 1) ≡ Some (p + 1 + i) → i + 4 ≤ length ys → ((j : ℕ) → j < i + 4 → get_or ys j 0 ≡ get_or xs j 0) → find ys (q + 1) ≡ Some (q + 1 + i)) →
+        find (y ∷ ys) q ≡ Some (q + i)
     go true t ih =
-        let r : SyncAt p ≡ SyncAt (p + i) = sym (find_here (x ∷ xs) p t) ∙ e in
+        let r : Some p ≡ Some (p + i) = sym (find_here (x ∷ xs) p t) ∙ e in
         let k : p ≡ p + i = cc in
         let n : q ≡ q + i = omega arith in
-        find_here (y ∷ ys) q (starts_all sync_bytes (y ∷ ys) (omega arith) (λ j b. h j (omega arith) ∙ starts_at sync_bytes (x ∷ xs) t j b)) ∙ ap SyncAt n
+        find_here (y ∷ ys) q (starts_all sync_bytes (y ∷ ys) (omega arith) (λ j b. h j (omega arith) ∙ starts_at sync_bytes (x ∷ xs) t j b)) ∙ ap Some n
     go false f ih =
-        let r : find xs (p + 1) ≡ SyncAt (p + i) = sym (find_next xs p x f) ∙ e in
+        let r : find xs (p + 1) ≡ Some (p + i) = sym (find_next xs p x f) ∙ e in
         let w : (p + 1 ≤ p + i) × (p + i + 4 ≤ p + 1 + length xs) = find_within xs (p + 1) (p + i) r in
         let a : p + i ≡ p + 1 + (i - 1) = omega arith in
         let b : q + 1 + (i - 1) ≡ q + i = omega arith in
         let other : begins_with sync_bytes (y ∷ ys) ≡ false =
         false_of (begins_with sync_bytes (y ∷ ys)) (λ t. let z : ◌≡◌ {A = ℕ} 0 1 = no_both t f in omega arith) in
         find_next ys q y other
-        ∙ ih (i - 1) (r ∙ ap SyncAt a) (omega arith) (λ j k. h (suc j) (omega arith))
-        ∙ ap SyncAt b
+        ∙ ih (i - 1) (r ∙ ap Some a) (omega arith) (λ j k. h (suc j) (omega arith))
+        ∙ ap Some b
       where
         no_both : begins_with sync_bytes (y ∷ ys) ≡ true → begins_with sync_bytes (x ∷ xs) ≡ false → ◌≡◌ {A = ℕ} 0 1
         no_both t f =
@@ -167,14 +168,14 @@ finish_moved s t d from f e h l same = trace_moved (words (drop from s)) (words 
 ended_words : (ws : List ℕ) (p : ℕ) (before : Before) (n wbstar end writes : ℕ) → finish (trace ws p (header before)) n wbstar ≡ FinishEnded end writes →
     (p + 8 ≤ end) × (end ≤ p + 4 * length ws)
 unfolding finish looked_to
-ended_words [] p before n wbstar end writes e = let q = rw (trace_none p (header before)) at e in let z : ◌≡◌ {A = ℕ} 0 1 = cc in absurd (omega arith)
+ended_words [] p before n wbstar end writes e = let q = rw (trace_none p (header before)) at e in cc
 ended_words (x ∷ ws) p before n wbstar end writes e = go (after_header (head_of x) before) refl
   where
     go : (o : Option Mode) → after_header (head_of x) before ≡ o → (p + 8 ≤ end) × (end ≤ p + 4 * length (x ∷ ws))
-    go none a = let q = rw (trace_fault x ws p before a) at e in let z : ◌≡◌ {A = ℕ} 0 1 = cc in absurd (omega arith)
+    go none a = let q = rw (trace_fault x ws p before a) at e in cc
     go (some m) a =
         let w : (p + 4 + 4 ≤ end) × (end ≤ p + 4 + 4 * length ws) =
-        looked ws (p + 4) m n wbstar (FinishEnded end writes) (rw (trace_header x ws p before m a) at e) (λ q. let z : ◌≡◌ {A = ℕ} 0 1 = cc in omega arith) in
+        looked ws (p + 4) m n wbstar (FinishEnded end writes) (rw (trace_header x ws p before m a) at e) (λ q. cc) in
         (omega arith, omega arith)
 
 -- Packets that end take two words at least, and only what there is.

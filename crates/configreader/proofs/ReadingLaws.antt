@@ -8,10 +8,11 @@ use native.Mathlib.Omega.{arith}
 use borrow.Author.Tests.{lt-ltb, le-ltb, ltb-true}
 use lib.Dec.{ltb}
 use lib.ListN.{length, drop, length-drop}
+use Rattle.std.proofs.Common.{Option, Some, None}
 use Rattle.framing.specs.Search.{find}
 use Rattle.packets.specs.Trace.{finish_from}
 use Rattle.configreader.specs.Configreader.{read_at, search_from, jump, read_from}
-use Rattle.configreader.specs.Types.{Found, SyncAt, NoSync, Finish, FinishEnded, FinishIprog, FinishFault, FinishShort, Outcome, Loaded, OutcomeIprog, Stuck}
+use Rattle.configreader.specs.Types.{Finish, FinishEnded, FinishIprog, FinishFault, FinishShort, Outcome, Loaded, OutcomeIprog, Stuck}
 use Rattle.framing.proofs.Laws.{find_within}
 use Rattle.configreader.proofs.PlacementLaws.{looked_to, looked_within}
 
@@ -35,11 +36,11 @@ module _ (on_jump : ℕ → ℕ → Outcome) (jumped : Bool) (s : List ℕ) (syn
   read_short e = rw (e, read_at)
 
 module _ (on_jump : ℕ → ℕ → Outcome) (jumped : Bool) (s : List ℕ) (from : ℕ) where
-  pub search_found : (sync : ℕ) → find (drop from s) from ≡ SyncAt sync → search_from on_jump jumped s from ≡ read_at on_jump jumped s sync
+  pub search_found : (sync : ℕ) → find (drop from s) from ≡ Some sync → search_from on_jump jumped s from ≡ read_at on_jump jumped s sync
   unfolding search_from
   search_found sync e = rw (e, search_from)
 
-  pub search_none : find (drop from s) from ≡ NoSync → search_from on_jump jumped s from ≡ Stuck (length s)
+  pub search_none : find (drop from s) from ≡ None → search_from on_jump jumped s from ≡ Stuck (length s)
   unfolding search_from
   search_none e = rw (e, search_from)
 
@@ -77,10 +78,10 @@ proper_at on_jump jumped s sync h l = go (finish_from s (sync + 4)) refl
     go : (f : Finish) → finish_from s (sync + 4) ≡ f → Proper s (read_at on_jump jumped s sync)
     go (FinishEnded end writes) e = rw (read_ended on_jump jumped s sync end writes e) (l, e)
     go (FinishIprog place to) e =
-        let w : place + 4 ≤ length s = looked_within s (sync + 4) (FinishIprog place to) l e (λ q. let z : ◌≡◌ {A = ℕ} 0 1 = cc in omega arith) in
+        let w : place + 4 ≤ length s = looked_within s (sync + 4) (FinishIprog place to) l e (λ q. cc) in
         rw (read_jump on_jump jumped s sync place to e) (h place to (omega arith))
     go (FinishFault place) e =
-        let w : place + 4 ≤ length s = looked_within s (sync + 4) (FinishFault place) l e (λ q. let z : ◌≡◌ {A = ℕ} 0 1 = cc in omega arith) in
+        let w : place + 4 ≤ length s = looked_within s (sync + 4) (FinishFault place) l e (λ q. cc) in
         rw (read_fault on_jump jumped s sync place e) (omega arith)
     go FinishShort e = rw (read_short on_jump jumped s sync e) (omega arith)
 
@@ -88,9 +89,9 @@ proper_search : (on_jump : ℕ → ℕ → Outcome) (jumped : Bool) (s : List �
 unfolding Proper
 proper_search on_jump jumped s from h l = go (find (drop from s) from) refl
   where
-    go : (f : Found) → find (drop from s) from ≡ f → Proper s (search_from on_jump jumped s from)
-    go (SyncAt sync) e = rw (search_found on_jump jumped s from sync e) (proper_at on_jump jumped s sync h (let w : (from ≤ sync) × (sync + 4 ≤ from + length (drop from s)) = find_within (drop from s) from sync e in omega (arith, length-drop from s)))
-    go NoSync e = rw (search_none on_jump jumped s from e) (omega arith)
+    go : (f : Option ℕ) → find (drop from s) from ≡ f → Proper s (search_from on_jump jumped s from)
+    go (Some sync) e = rw (search_found on_jump jumped s from sync e) (proper_at on_jump jumped s sync h (let w : (from ≤ sync) × (sync + 4 ≤ from + length (drop from s)) = find_within (drop from s) from sync e in omega (arith, length-drop from s)))
+    go None e = rw (search_none on_jump jumped s from e) (omega arith)
 
 proper_jump : (left : ℕ) (s : List ℕ) (place to : ℕ) → place ≤ length s → Proper s (jump left s place to)
 unfolding Proper jump
@@ -106,20 +107,20 @@ proper left jumped s from l = proper_search (jump left s) jumped s from (proper_
 
 -- What a reading alone that is Loaded comes from: a sync word found, packets that end, and no jump.
 pub alone_parts : (jumped : Bool) (s : List ℕ) (from sync end writes : ℕ) (after : Bool) → read_from 0 jumped s from ≡ Loaded sync end writes after →
-    (find (drop from s) from ≡ SyncAt sync) × (finish_from s (sync + 4) ≡ FinishEnded end writes) × (after ≡ jumped)
+    (find (drop from s) from ≡ Some sync) × (finish_from s (sync + 4) ≡ FinishEnded end writes) × (after ≡ jumped)
 unfolding jump
 alone_parts jumped s from sync end writes after h = go (find (drop from s) from) refl
   where
-    end_of : (at : ℕ) → find (drop from s) from ≡ SyncAt at → (f : Finish) → finish_from s (at + 4) ≡ f →
-        (find (drop from s) from ≡ SyncAt sync) × (finish_from s (sync + 4) ≡ FinishEnded end writes) × (after ≡ jumped)
+    end_of : (at : ℕ) → find (drop from s) from ≡ Some at → (f : Finish) → finish_from s (at + 4) ≡ f →
+        (find (drop from s) from ≡ Some sync) × (finish_from s (sync + 4) ≡ FinishEnded end writes) × (after ≡ jumped)
     end_of at e (FinishEnded a b) g =
         let q = sym h ∙ search_found (jump 0 s) jumped s from at e ∙ read_ended (jump 0 s) jumped s at a b g in
         let k : at ≡ sync = cc in
         (e ∙ cc, rw k at g ∙ cc, cc)
-    end_of at e (FinishIprog a b) g = let q = sym h ∙ search_found (jump 0 s) jumped s from at e ∙ read_jump (jump 0 s) jumped s at a b g in let z : ◌≡◌ {A = ℕ} 0 1 = cc in absurd (omega arith)
-    end_of at e (FinishFault a) g = let q = sym h ∙ search_found (jump 0 s) jumped s from at e ∙ read_fault (jump 0 s) jumped s at a g in let z : ◌≡◌ {A = ℕ} 0 1 = cc in absurd (omega arith)
-    end_of at e FinishShort g = let q = sym h ∙ search_found (jump 0 s) jumped s from at e ∙ read_short (jump 0 s) jumped s at g in let z : ◌≡◌ {A = ℕ} 0 1 = cc in absurd (omega arith)
+    end_of at e (FinishIprog a b) g = let q = sym h ∙ search_found (jump 0 s) jumped s from at e ∙ read_jump (jump 0 s) jumped s at a b g in cc
+    end_of at e (FinishFault a) g = let q = sym h ∙ search_found (jump 0 s) jumped s from at e ∙ read_fault (jump 0 s) jumped s at a g in cc
+    end_of at e FinishShort g = let q = sym h ∙ search_found (jump 0 s) jumped s from at e ∙ read_short (jump 0 s) jumped s at g in cc
 
-    go : (f : Found) → find (drop from s) from ≡ f → (find (drop from s) from ≡ SyncAt sync) × (finish_from s (sync + 4) ≡ FinishEnded end writes) × (after ≡ jumped)
-    go (SyncAt at) e = end_of at e (finish_from s (at + 4)) refl
-    go NoSync e = let q = sym h ∙ search_none (jump 0 s) jumped s from e in let z : ◌≡◌ {A = ℕ} 0 1 = cc in absurd (omega arith)
+    go : (f : Option ℕ) → find (drop from s) from ≡ f → (find (drop from s) from ≡ Some sync) × (finish_from s (sync + 4) ≡ FinishEnded end writes) × (after ≡ jumped)
+    go (Some at) e = end_of at e (finish_from s (at + 4)) refl
+    go None e = let q = sym h ∙ search_none (jump 0 s) jumped s from e in cc

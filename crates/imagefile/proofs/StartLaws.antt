@@ -17,7 +17,7 @@ same_test a b = go (eqb a b) refl
     go false e = sym (ne_eqb b a (λ q. eqb-false a b e (sym q)))
 
 pub starts_begins : (pattern bytes : List ℕ) → starts_with eqb bytes pattern ≡ begins_with pattern bytes
-unfolding begins_with pointwise
+unfolding begins_with
 starts_begins [] bytes = refl
 starts_begins (p ∷ pattern) [] = refl
 starts_begins (p ∷ pattern) (b ∷ bytes) = ap₂ (λ (x y : Bool). x && y) (same_test p b) (starts_begins pattern bytes)
