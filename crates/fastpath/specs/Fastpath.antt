@@ -1,7 +1,7 @@
 -- Whole packets passed at once. The contracts of functions that are no public calls cite it.
-use Rattle.std.specs.Prelude.{ℕ, ◌≤◌, ◌≡◌, false, List, eqb, length}
+use Rattle.std.specs.Prelude.{ℕ, ◌+◌, ◌≤◌, ◌≡◌, false, List, eqb, length, drop}
 use Rattle.std.proofs.Math.Option.{some}
-use Rattle.framing.specs.Words.{word_at}
+use Rattle.framing.specs.Words.{words, word_at}
 use Rattle.packets.specs.Header.{CMD, WBSTAR, head_of}
 use Rattle.packets.specs.Trace.{other, mode_of, after_header}
 use Rattle.scanner.specs.Scan.{before_of, scan_of, AtHeader}
@@ -21,6 +21,13 @@ pub record CountedBegins (s : List ℕ) (w : Scanner) (count : ℕ) : Type 0 whe
   pub begins : PacketBegins s w register count
   pub no_command : eqb register CMD ≡ false
   pub no_place : eqb register WBSTAR ≡ false
+
+-- What is asked of a packet of `count` data words before some are passed: the scanner is before its header, which is whole, and of so many words as `room` says none is wanted, nor are there fewer.
+pub record HasRoom (s : List ℕ) (w : Scanner) (count room : ℕ) : Type 0 where
+  pub ready : AtHeader w
+  pub header : w.at + 4 ≤ length s
+  pub unwanted : room ≤ w.skip
+  pub there : count ≤ room → count ≤ length (words (drop (w.at + 4) s))
 
 -- What skipping whole packets keeps: what the scanner comes to, that it is before a header, and that it does not go back or out of the bytes.
 pub record SkipKeeps (s : List ℕ) (w r : Scanner) : Type 0 where

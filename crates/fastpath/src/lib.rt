@@ -7,7 +7,7 @@ ghost use Rattle.framing.specs.Words.{words, word_at};
 ghost use Rattle.packets.specs.Header.{register_ok, head_of, effect_of};
 ghost use Rattle.fastpath.specs.Types.{GoesOn, Type1};
 ghost use Rattle.scanner.specs.Scan.{AtHeader};
-ghost use Rattle.fastpath.specs.Fastpath.{NOP, PacketBegins, CountedBegins, SkipKeeps};
+ghost use Rattle.fastpath.specs.Fastpath.{NOP, PacketBegins, CountedBegins, HasRoom, SkipKeeps};
 
 use std::cmp::min;
 use framing::words::{word_at, words_from};
@@ -42,7 +42,7 @@ fn may_skip(s: &[u8], at: usize, register: u32, count: usize, room: usize) -> bo
 // The scanner after the packet of a header at its place; or as it was, where the packet cannot be skipped
 // at once.
 fn skip_data(s: &[u8], w: Scanner, register: u32, count: usize, room: usize) -> Scanner
-    requires { AtHeader w × (w.at + 4 ≤ length s.now) × (1 ≤ count → PacketBegins s.now w register count) × (room ≤ w.skip) × (count ≤ room → count ≤ length (words (drop (w.at + 4) s.now))) }
+    requires { HasRoom s.now w count room × (1 ≤ count → PacketBegins s.now w register count) }
     ensures { SkipKeeps s.now w result }
 {
     if !may_skip(s, w.at + 4, register, count, room) {
@@ -54,7 +54,7 @@ fn skip_data(s: &[u8], w: Scanner, register: u32, count: usize, room: usize) -> 
 // The same of a packet whose words are only counted. Its register is not kept, so it is passed as one of register 0: what
 // would be asked of other registers falls away.
 fn skip_counted(s: &[u8], w: Scanner, count: usize, room: usize) -> Scanner
-    requires { AtHeader w × (w.at + 4 ≤ length s.now) × (1 ≤ count → CountedBegins s.now w count) × (room ≤ w.skip) × (count ≤ room → count ≤ length (words (drop (w.at + 4) s.now))) }
+    requires { HasRoom s.now w count room × (1 ≤ count → CountedBegins s.now w count) }
     ensures { SkipKeeps s.now w result }
 {
     if count == 0 {
@@ -68,7 +68,7 @@ fn skip_counted(s: &[u8], w: Scanner, count: usize, room: usize) -> Scanner
 
 // `skip_counted` or `skip_data`, by the register: the caller has asked that it may be named.
 fn skip_words(s: &[u8], w: Scanner, register: u32, count: usize, room: usize) -> Scanner
-    requires { AtHeader w × (w.at + 4 ≤ length s.now) × (register < 32) × (1 ≤ count → PacketBegins s.now w register count) × (room ≤ w.skip) × (count ≤ room → count ≤ length (words (drop (w.at + 4) s.now))) }
+    requires { HasRoom s.now w count room × (register < 32) × (1 ≤ count → PacketBegins s.now w register count) }
     ensures { SkipKeeps s.now w result }
 {
     if is_plain_register(register) {

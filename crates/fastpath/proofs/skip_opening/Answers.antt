@@ -3,8 +3,9 @@ use Prim.Native.Nat.{ℕ, ◌+◌, ◌%◌}
 use mathlib.Core.Path.{◌≡◌, refl, sym, ap, ◌∙◌}
 use native.Mathlib.Omega.{arith}
 use Rattle.packets.specs.Header.{head_of}
-use Rattle.fastpath.specs.Fastpath.{PacketBegins, SkipKeeps}
+use Rattle.fastpath.specs.Fastpath.{PacketBegins, HasRoom, SkipKeeps}
 use Rattle.fastpath.specs.Types.{Type2, Scanner}
+use Rattle.scanner.proofs.Laws.{least}
 use Rattle.fastpath.proofs.SkipLaws.{past_on, past_empty, begins_type2}
 use Rattle.fastpath.proofs.skip_opening.Goals as goal
 use Rattle.fastpath.proofs.skip_opening.Goals.{After-after_header-opened, After-min-room}
@@ -27,6 +28,16 @@ begins c count e =
     (ap (λ (w : Scanner). w.opened) after)
     (ap (λ (w : Scanner). w.register) after)
 
+fits : (c : After-min-room) (count : ℕ) → SkipKeeps c.args.s.now c.args.w c.after_header-opened.result → HasRoom c.args.s.now c.after_header-opened.result count c.min-room.result
+fits c count kept =
+    let room = least c.after_header-opened.result.skip c.words_from.result _ c.min-room.ensures in
+    record {
+      ready = kept.ready;
+      header = omega (arith, ap (λ (w : Scanner). w.at) c.after_header-opened.ensures, c.requires.1);
+      unwanted = omega (arith, room);
+      there = λ h. omega (arith, h, room, c.words_from.ensures);
+    }
+
 pub word_at-word-requires : goal.word_at-word-requires
 word_at-word-requires c = omega (arith, place (goal.at.word_at-word-requires c).After-after_header-opened, c.requires.1)
 
@@ -37,29 +48,13 @@ pub overflow_add-opened : goal.overflow_add-opened
 overflow_add-opened c = omega (arith, place (goal.at.overflow_add-opened c).After-after_header-opened, c.requires.1, c.well_formed)
 
 pub skip_words-requires : goal.skip_words-requires
-skip_words-requires c =
-    let p = c.requires in (
-      (opened (goal.at.skip_words-requires c).After-after_header-opened).ready,
-      omega (arith, place (goal.at.skip_words-requires c).After-after_header-opened, p.1),
-      p.2,
-      λ h. begins (goal.at.skip_words-requires c).After-min-room 1 (omega (arith, c.if-word-eq-TYPE2_OF_ONE.true)),
-      omega (arith, c.min-room.ensures),
-      λ h. omega (arith, h, c.min-room.ensures, c.words_from.ensures),
-    )
+skip_words-requires c = (fits (goal.at.skip_words-requires c).After-min-room _ (opened (goal.at.skip_words-requires c).After-after_header-opened), c.requires.2, λ h. begins (goal.at.skip_words-requires c).After-min-room 1 (omega (arith, c.if-word-eq-TYPE2_OF_ONE.true)))
 
 pub returns-then-word-eq-TYPE2_OF_ONE : goal.returns-then-word-eq-TYPE2_OF_ONE
 returns-then-word-eq-TYPE2_OF_ONE c = past_on _ _ _ _ (opened (goal.at.returns-then-word-eq-TYPE2_OF_ONE c).After-after_header-opened) c.skip_words.ensures
 
 pub skip_words-requires-2 : goal.skip_words-requires-2
-skip_words-requires-2 c =
-    let p = c.requires in (
-      (opened (goal.at.skip_words-requires-2 c).After-after_header-opened).ready,
-      omega (arith, place (goal.at.skip_words-requires-2 c).After-after_header-opened, p.1),
-      p.2,
-      λ h. begins (goal.at.skip_words-requires-2 c).After-min-room _ refl,
-      omega (arith, c.min-room.ensures),
-      λ h. omega (arith, h, c.min-room.ensures, c.words_from.ensures),
-    )
+skip_words-requires-2 c = (fits (goal.at.skip_words-requires-2 c).After-min-room _ (opened (goal.at.skip_words-requires-2 c).After-after_header-opened), c.requires.2, λ h. begins (goal.at.skip_words-requires-2 c).After-min-room _ refl)
 
 pub returns : goal.returns
 returns c = past_on _ _ _ _ (opened (goal.at.returns c).After-after_header-opened) c.skip_words-2.ensures

@@ -5,11 +5,12 @@ use mathlib.Core.Bool.{true}
 use native.Mathlib.Omega.{arith}
 use Rattle.framing.specs.Words.{word_at}
 use Rattle.packets.specs.Header.{register_ok, head_of}
-use Rattle.fastpath.specs.Fastpath.{PacketBegins}
+use Rattle.fastpath.specs.Fastpath.{PacketBegins, HasRoom}
 use Rattle.fastpath.specs.Types.{Type1}
+use Rattle.scanner.proofs.Laws.{least}
 use Rattle.fastpath.proofs.SkipLaws.{past_none, begins_type1}
 use Rattle.fastpath.proofs.skip_packet.Goals as goal
-use Rattle.fastpath.proofs.skip_packet.Goals.{Else-not-is_type1_form, Else-not-register_ok}
+use Rattle.fastpath.proofs.skip_packet.Goals.{Else-not-is_type1_form, Else-not-register_ok, After-min-room}
 
 -- a type 1 write of the register that its field says, if that may be named, and of so many data words
 head-is : (c : Else-not-is_type1_form) (count : ℕ) → c.args.word % 2048 ≡ count → register_ok (c.args.word / 8192 % 32) ≡ true →
@@ -27,6 +28,17 @@ begins : (c : Else-not-is_type1_form) (count : ℕ) → c.args.word % 2048 ≡ c
     PacketBegins c.args.s.now c.args.w (c.args.word / 8192 % 32) count
 begins c count e ok = begins_type1 c.args.s.now c.args.w (c.args.word / 8192 % 32) count (head-is c count e ok)
 
+fits : (c : After-min-room) (count : ℕ) → HasRoom c.args.s.now c.args.w count c.min-room.result
+fits c count =
+    let room = least c.args.w.skip c.words_from.result _ c.min-room.ensures in
+    let p = c.requires in
+    record {
+      ready = p.0;
+      header = omega (arith, p.1);
+      unwanted = omega (arith, room);
+      there = λ h. omega (arith, h, room, c.words_from.ensures);
+    }
+
 pub skip_nops-requires : goal.skip_nops-requires
 skip_nops-requires c = let p = c.requires in (p.0, omega (arith, p.1), sym p.2 ∙ c.if-word-eq-NOP.true)
 
@@ -43,23 +55,7 @@ pub skip_opening-requires : goal.skip_opening-requires
 skip_opening-requires c = let p = c.requires in (p.0, p.1, omega arith, head-is (goal.at.skip_opening-requires c).Else-not-is_type1_form 0 c.if-count-eq0.true (may (goal.at.skip_opening-requires c).Else-not-register_ok))
 
 pub skip_words-requires : goal.skip_words-requires
-skip_words-requires c =
-    let p = c.requires in (
-      p.0,
-      omega (arith, p.1),
-      omega arith,
-      begins (goal.at.skip_words-requires c).Else-not-is_type1_form 2 c.if-count-eq2.true (may (goal.at.skip_words-requires c).Else-not-register_ok),
-      omega (arith, c.min-room.ensures),
-      λ h. omega (arith, h, c.min-room.ensures, c.words_from.ensures),
-    )
+skip_words-requires c = (fits (goal.at.skip_words-requires c).After-min-room _, omega arith, begins (goal.at.skip_words-requires c).Else-not-is_type1_form 2 c.if-count-eq2.true (may (goal.at.skip_words-requires c).Else-not-register_ok))
 
 pub skip_words-requires-2 : goal.skip_words-requires-2
-skip_words-requires-2 c =
-    let p = c.requires in (
-      p.0,
-      omega (arith, p.1),
-      omega arith,
-      begins (goal.at.skip_words-requires-2 c).Else-not-is_type1_form (c.args.word % 2048) refl (may (goal.at.skip_words-requires-2 c).Else-not-register_ok),
-      omega (arith, c.min-room.ensures),
-      λ h. omega (arith, h, c.min-room.ensures, c.words_from.ensures),
-    )
+skip_words-requires-2 c = (fits (goal.at.skip_words-requires-2 c).After-min-room _, omega arith, begins (goal.at.skip_words-requires-2 c).Else-not-is_type1_form (c.args.word % 2048) refl (may (goal.at.skip_words-requires-2 c).Else-not-register_ok))
