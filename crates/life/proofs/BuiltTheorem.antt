@@ -3,6 +3,7 @@ use Prim.Native.Nat.{ℕ, ◌+◌, ◌-◌, ◌≤◌}
 use mathlib.Core.Path.{◌≡◌, refl, sym, ◌∙◌}
 use mathlib.Core.Bool.{Bool, true, false}
 use mathlib.Core.List.{List}
+use Rattle.std.specs.Prelude.{Ok, Some}
 use native.Mathlib.Omega.{arith}
 use lib.ListN.{length}
 use Rattle.kind.specs.Layout.{chip_length_allowed, golden_at}
@@ -14,7 +15,7 @@ use Rattle.kind.specs.Kind.{Kind}
 use Rattle.kind.specs.Spi.{spi}
 use Rattle.chip.specs.Chip.{switch_word, golden_area, Loads, WellFormed, ContainsAt}
 use Rattle.builder.specs.Builder.{built_chip, build_answer}
-use Rattle.life.specs.Types.{PlaceFound, Layout, Built}
+use Rattle.life.specs.Types.{Layout}
 use Rattle.chip.specs.UpdatePlace.{place_answer}
 use Rattle.chip.proofs.Laws.{spi_lawful, named_place_law}
 use Rattle.builder.proofs.Laws.{questions, built_well_formed, built_off, built_loads}
@@ -52,7 +53,7 @@ same_image kind chip other a b place jumped la lb l =
     let n : l.itself.writes ≡ la.itself.writes = cc in
     record { itself = lb.itself; reading = l.reading ∙ rw (s, e, n) read; whole = l.whole ∙ sym la.whole ∙ lb.whole }
 
-module _ (layout : Layout) (golden : List ℕ) (room : ℕ) (built : build_answer spi layout golden room ≡ Built) where
+module _ (layout : Layout) (golden : List ℕ) (room : ℕ) (built : build_answer spi layout golden room ≡ Ok tt) where
   abbrev chip : List ℕ
   chip = built_chip spi layout golden
 
@@ -93,7 +94,7 @@ module _ (layout : Layout) (golden : List ℕ) (room : ℕ) (built : build_answe
   claimed_as_ordered events literal = claimed events ((as_ordered spi spi_lawful).valid layout.update_place (fresh chip) begins events literal)
 
   -- The chip stays well-formed for its U, so it names it.
-  names : (events : List Event) → Valid spi layout.update_place (fresh chip) events → place_answer spi (life spi (fresh chip) events).chip ≡ PlaceFound layout.update_place
+  names : (events : List Event) → Valid spi layout.update_place (fresh chip) events → place_answer spi (life spi (fresh chip) events).chip ≡ Ok (Some layout.update_place)
   names events valid =
       let inv = lives spi spi_lawful layout.update_place (golden_area layout.update_place chip) events (fresh chip) (begins_hold spi layout.update_place (fresh chip) begins) valid in
       named_place_law.well_formed layout.update_place (life spi (fresh chip) events).chip inv.formed

@@ -9,6 +9,6 @@ unfolding next after_start after_reply on_run
 events_keep kind = record {
   cut_keeps = λ w. (refl, refl, refl, refl, refl);
   start_opens = λ w layout image state e. rw e refl;
-  start_refused = λ w layout image number place e. rw e refl;
-  reply_refused = λ w run image reply_kind bytes number place state is_open e. rw (is_open, e) refl;
+  start_refused = λ w layout image r e. rw e refl;
+  reply_refused = λ w run image reply_kind bytes r is_open e. rw (is_open, e) refl;
 }

@@ -3,7 +3,7 @@ use Prim.Native.Nat.{ℕ, ◌+◌, ◌-◌, ◌*◌, ◌/◌, ◌%◌, ◌<◌, 
 use mathlib.Core.Path.{◌≡◌, refl, sym, ap, subst, ◌∙◌}
 use mathlib.Core.Logic.{⊎_elim}
 use mathlib.Core.Bool.{Bool, true, false, ◌&&◌, ◌||◌}
-use Rattle.std.specs.Prelude.{Option, Some, None}
+use Rattle.std.specs.Prelude.{Option, Some, None, Result, Ok, Err}
 use mathlib.Core.List.{List, [], ◌∷◌}
 use native.Mathlib.Omega.{arith}
 use borrow.Author.Tests.{ltb-true, ltb-false, eqb-true}
@@ -17,7 +17,7 @@ use Rattle.flash.specs.Flash.{erased, span, overwrite, after_program}
 use Rattle.chip.specs.Cut.{MayLeave}
 use Rattle.kind.specs.Kind.{Kind}
 use Rattle.chip.specs.Chip.{switch_word, golden_area, BitSuperset, LoadsAlone, WellFormed, ContainsAt, Lawful}
-use Rattle.life.specs.Types.{Layout, State, ReplyAnswer, Next, Stopped, ReplyRefused, StartAnswer, Started, StartRefused}
+use Rattle.life.specs.Types.{Refusal, Layout, State, Reply, Next, Stopped, RefusedReply}
 use Rattle.flash.proofs.Laws.{get_d_any, span_at, span_length, overwrite_length, overwrite_before, overwrite_after, erased_length, cleared_length}
 use Rattle.chip.proofs.Laws.{golden_stays, erase_well_formed, program_well_formed, area_switch, area_well_formed}
 use Rattle.orders.specs.Table.{by_phase, count}
@@ -530,25 +530,25 @@ module _ (kind : Kind) (lawful : Lawful kind) (update_place : ℕ) (first_golden
                 done = λ q z. done q;
               }))
 
-    replied : (image : List ℕ) (reply_kind : ℕ) (bytes : List ℕ) (answer : ReplyAnswer) → reply_answer kind run.state image reply_kind bytes ≡ answer → AdmissibleReply answer kind image bytes run w → Invariant kind update_place first_golden (after_reply answer run w)
+    replied : (image : List ℕ) (reply_kind : ℕ) (bytes : List ℕ) (answer : Result Reply RefusedReply) → reply_answer kind run.state image reply_kind bytes ≡ answer → AdmissibleReply answer kind image bytes run w → Invariant kind update_place first_golden (after_reply answer run w)
     unfolding AdmissibleReply after_reply
-    replied image reply_kind bytes (ReplyRefused number place state) e may = inv
-    replied image reply_kind bytes (Stopped number place state) e may =
+    replied image reply_kind bytes (Err r) e may = inv
+    replied image reply_kind bytes (Ok (Stopped number place state)) e may =
         let h = halted kind run.state image reply_kind bytes number place state e in
         subst (λ (t : State). Invariant kind update_place first_golden (world_at t)) (sym h.comes) (goes_on (ended run.state number) (stopped_holds number (stop_number run.state.phase number h.stop)))
-    replied image reply_kind bytes (Next state) e may =
-        let own : reply_answer kind run.state run.image reply_kind bytes ≡ Next state = subst (λ (i : List ℕ). reply_answer kind run.state i reply_kind bytes ≡ Next state) may.same e in
+    replied image reply_kind bytes (Ok (Next state)) e may =
+        let own : reply_answer kind run.state run.image reply_kind bytes ≡ Ok (Next state) = subst (λ (i : List ℕ). reply_answer kind run.state i reply_kind bytes ≡ Ok (Next state)) may.same e in
         let m = moved kind run.state run.image reply_kind bytes state own in
         subst (λ (t : State). Invariant kind update_place first_golden (world_at t)) (sym m.comes)
         (moved_on reply_kind bytes (record { fitted = m.fitted; ran = m.ran; replied = m.replied; comes = refl }) (record { carried = may.carried; same = refl; reads = may.reads }))
 
   -- STARTS. An accepted one opens a run at phase 0.
-  started : (w : World) → Invariant kind update_place first_golden w → (layout : Layout) (image : List ℕ) (answer : StartAnswer) → start_answer kind layout image ≡ answer → AdmissibleStart answer update_place layout w → Invariant kind update_place first_golden (after_start answer image w)
+  started : (w : World) → Invariant kind update_place first_golden w → (layout : Layout) (image : List ℕ) (answer : Result State Refusal) → start_answer kind layout image ≡ answer → AdmissibleStart answer update_place layout w → Invariant kind update_place first_golden (after_start answer image w)
   unfolding AdmissibleStart after_start on_run Stage by_phase
-  started w inv layout image (StartRefused number place) e may = inv
-  started w inv layout image (Started state) e may =
+  started w inv layout image (Err r) e may = inv
+  started w inv layout image (Ok state) e may =
       let o = opened kind lawful layout image state e in
-      subst (λ (t : State). Invariant kind update_place first_golden (after_start (Started t) image w)) (sym o.begins)
+      subst (λ (t : State). Invariant kind update_place first_golden (after_start (Ok t) image w)) (sym o.begins)
       (record {
         formed = inv.formed;
         golden = inv.golden;

@@ -2,10 +2,10 @@
 use Prim.Native.Nat.{ℕ, ◌+◌, ◌≤◌}
 use mathlib.Core.Path.{◌≡◌, refl, sym, ap, subst, ◌∙◌}
 use mathlib.Core.Bool.{Bool, true, false}
-use Rattle.std.specs.Prelude.{Option, Some}
+use Rattle.std.specs.Prelude.{Option, Some, Ok}
 use mathlib.Core.List.{List}
 use lib.ListN.{length}
-use Rattle.life.specs.Types.{Loaded, Layout, State, Started}
+use Rattle.life.specs.Types.{Loaded, Layout, State}
 use Rattle.base.proofs.Laws.{false_true}
 use Rattle.kind.specs.Layout.{golden_at}
 use Rattle.kind.specs.Kind.{Kind}
@@ -72,7 +72,7 @@ module _ (kind : Kind) (lawful : Lawful kind) (update_place : ℕ) (first : Worl
         go false e = absurd (jumped_or_not kind w.chip (loads_reads kind w.chip first_golden golden_at false (off_loads e)) (reads w.chip image place true l))
 
   -- One more run: the list with it is itself one that keeps the premises, so what is ON loads what was ordered, and that is its image.
-  again : (w : World) → Invariant kind update_place first_golden w → (layout : Layout) (image : List ℕ) (state : State) → start_answer kind layout image ≡ Started state → layout.chip_length ≡ length w.chip →
+  again : (w : World) → Invariant kind update_place first_golden w → (layout : Layout) (image : List ℕ) (state : State) → start_answer kind layout image ≡ Ok state → layout.chip_length ≡ length w.chip →
       layout.update_place ≡ update_place → Bytes image → Updates kind loads update_place layout image w
   again w inv layout image state e l u bytes =
       let o = opened kind lawful layout image state e in

@@ -3,7 +3,7 @@ use Prim.Native.Nat.{ℕ, zero, suc, ◌+◌, ◌<◌, ◌≤◌}
 use mathlib.Core.Path.{◌≡◌, refl, sym, ap, ap₂, subst, ◌∙◌}
 use mathlib.Core.Logic.{⊎_elim}
 use mathlib.Core.Bool.{Bool, true, false}
-use Rattle.std.specs.Prelude.{Option, Some}
+use Rattle.std.specs.Prelude.{Option, Some, Result, Ok}
 use mathlib.Core.List.{List, [], ◌∷◌, ◌++◌, append-nil}
 use native.Mathlib.Omega.{arith}
 use borrow.Author.Tests.{ltb-false, eqb-false}
@@ -12,7 +12,7 @@ use lib.ListN.{length, drop, take, length-drop, drop_of_length-le}
 use lib.Seq.{take_all}
 use Rattle.kind.specs.Kind.{Kind}
 use Rattle.chip.specs.Chip.{LoadsAlone, Lawful}
-use Rattle.life.specs.Types.{Layout, State, ReplyAnswer, Next, StartAnswer, Started}
+use Rattle.life.specs.Types.{Refusal, Layout, State, Reply, Next, RefusedReply}
 use Rattle.orders.specs.Table.{by_phase, count, count_before, total}
 use Rattle.orders.specs.Orders.{Order, erase, program, look, order_of, orders}
 use Rattle.updater.specs.State.{position, first, after, ended, running, fits, current_order}
@@ -159,7 +159,7 @@ module _ (kind : Kind) (lawful : Lawful kind) (update_place : ℕ) (layout : Lay
         (λ h. further_at (phase + 1) 0 (after_phase (at phase i) h) (omega arith) (λ m. (omega arith, refl)) (advance.last h))
         (last_or_not (at phase i))
 
-    moved : reply_answer kind (at phase i) image (reply_kind_of (order phase i)) (bytes_read (order phase i) then_chip) ≡ Next (after (at phase i))
+    moved : reply_answer kind (at phase i) image (reply_kind_of (order phase i)) (bytes_read (order phase i) then_chip) ≡ Ok (Next (after (at phase i)))
     moved = moves kind (at phase i) image (reply_kind_of (order phase i)) (bytes_read (order phase i) then_chip) reached.fitted runs obeys.replied
 
     -- Its order, obeyed, and its true reply move the run on.
@@ -172,8 +172,8 @@ module _ (kind : Kind) (lawful : Lawful kind) (update_place : ℕ) (layout : Lay
         event_first kind update_place goal _ _ _
         (record { asked = runs; once = refl; leaves = obeys.may })
         (event_first kind update_place goal _ _ _
-        (subst (λ (a : ReplyAnswer). AdmissibleReply a kind image read carried done) (sym moved) (record { carried = refl; same = refl; reads = reads_true (order phase i) then_chip }))
-        (subst (λ (a : ReplyAnswer). Leads kind update_place goal (after_reply a carried done) events) (sym moved) (rest done.looks done.ordered)))
+        (subst (λ (a : Result Reply RefusedReply). AdmissibleReply a kind image read carried done) (sym moved) (record { carried = refl; same = refl; reads = reads_true (order phase i) then_chip }))
+        (subst (λ (a : Result Reply RefusedReply). Leads kind update_place goal (after_reply a carried done) events) (sym moved) (rest done.looks done.ordered)))
       where
         read : List ℕ
         read = bytes_read (order phase i) then_chip
@@ -238,10 +238,10 @@ module _ (kind : Kind) (lawful : Lawful kind) (update_place : ℕ) (layout : Lay
   unfolding Admissible AdmissibleStart next after_start
   start_first goal w events l u run =
       event_first kind update_place goal w (starts layout image) events
-      (subst (λ (a : StartAnswer). AdmissibleStart a update_place layout w) (sym accepted) (l, u))
-      (subst (λ (a : StartAnswer). Leads kind update_place goal (after_start a image w) events) (sym accepted) run)
+      (subst (λ (a : Result State Refusal). AdmissibleStart a update_place layout w) (sym accepted) (l, u))
+      (subst (λ (a : Result State Refusal). Leads kind update_place goal (after_start a image w) events) (sym accepted) run)
     where
-      accepted : start_answer kind layout image ≡ Started (first layout (length image))
+      accepted : start_answer kind layout image ≡ Ok (first layout (length image))
       accepted = start_accepted kind layout image numbers alone
 
   -- A RUN on a chip that obeys: its start, k of its orders, or all, and what leads on from there.
