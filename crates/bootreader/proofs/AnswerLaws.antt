@@ -2,24 +2,26 @@
 use Prim.Native.Nat.{ℕ, zero, suc, ◌+◌, ◌≤◌}
 use mathlib.Core.Path.{◌≡◌, refl, sym, ap, ◌∙◌}
 use mathlib.Core.Bool.{Bool, true, false}
-use mathlib.Core.Option.{some}
 use mathlib.Core.List.{List, [], ◌∷◌}
 use native.Mathlib.Omega.{arith}
 use borrow.Author.Tests.{le-leb}
 use lib.ListN.{length, take}
 use lib.Seq.{take-length}
+use Rattle.std.proofs.Common.{Option, Some, None, Result, Ok, Err}
+use Rattle.std.specs.Result.{result_map_both}
 use native.Mathlib.Nat.{zero-add}
 use Rattle.kind.specs.Spi.{spi}
 use Rattle.base.specs.Question.{ask}
+use Rattle.base.specs.Refusal.{refused}
 use Rattle.packets.specs.Trace.{mode_of, trace_from, finish_from, writes_from, contents, nth_write, content_of}
 use Rattle.configreader.specs.Configreader.{read_from, read_chip, read_alone, listed}
 use Rattle.writes.specs.Cursor.{cursor_at, remaining_writes, step_of, nth_step}
 use Rattle.writes.specs.Theorems.{step_write}
 use Rattle.kind.specs.Layout.{chip_length_allowed, image_length_allowed}
-use Rattle.bootreader.specs.Image.{longest_image, alone_case, ask_image, image_answer, image_write, image_listing}
+use Rattle.bootreader.specs.Image.{longest_image, accepted, alone_case, ask_image, image_answer, image_write, image_listing}
 use Rattle.bootreader.specs.Boot.{boot_case, boot_answer, cursor_of, chip_write}
 use Rattle.bootreader.specs.Theorems.{WritesCounted}
-use Rattle.bootreader.specs.Types.{Outcome, Loaded, OutcomeIprog, Stuck, BootLoaded, ImageAnswer, Accepted, ImageRefused, FinishEnded, Write, WriteRefused, ListingOpen, ListingRefused}
+use Rattle.bootreader.specs.Types.{Reason, BadImageLength, Refusal, Outcome, Loaded, OutcomeIprog, Stuck, BootLoaded, Accepted, FinishEnded, Write, Cursor}
 use Rattle.kind.proofs.Laws.{image_length_range}
 use Rattle.base.proofs.Laws.{asked}
 use Rattle.packets.proofs.Laws.{counted}
@@ -27,63 +29,63 @@ use Rattle.configreader.proofs.Laws.{Proper, proper, alone_parts}
 use Rattle.writes.proofs.Laws.{nth_step_law}
 
 -- what an image's answer comes to for one who asks more
-unfoldable pub on_answer {ℓ} : {A : Type ℓ} → (ℕ → ℕ → A) → (ℕ → ℕ → ℕ → A) → ImageAnswer → A
-on_answer refused accepted (Accepted sync end writes) = accepted sync end writes
-on_answer refused accepted (ImageRefused number place) = refused number place
+unfoldable pub on_answer {ℓ} : {A : Type ℓ} → (Reason → ℕ → A) → (ℕ → ℕ → ℕ → A) → Result Accepted Refusal → A
+on_answer no yes (Ok image) = yes image.sync image.end image.writes
+on_answer no yes (Err r) = no r.reason r.place
 
 -- Whatever is asked of an image goes by its answer.
-pub by_answer {ℓ} : {A : Type ℓ} (refused : ℕ → ℕ → A) (accepted : ℕ → ℕ → ℕ → A) (longest : ℕ) (image : List ℕ) →
-    on_answer refused accepted (ask_image spi longest ImageRefused Accepted image) ≡ ask_image spi longest refused accepted image
+pub by_answer {ℓ} : {A : Type ℓ} (no : Reason → ℕ → A) (yes : ℕ → ℕ → ℕ → A) (longest : ℕ) (image : List ℕ) →
+    on_answer no yes (ask_image spi longest refused accepted image) ≡ ask_image spi longest no yes image
 unfolding ask on_answer alone_case
-by_answer refused accepted longest image = go (image_length_allowed longest (length image)) (read_alone image)
+by_answer no yes longest image = go (image_length_allowed longest (length image)) (read_alone image)
   where
-    case : (o : Outcome) → on_answer refused accepted (alone_case ImageRefused Accepted o) ≡ alone_case refused accepted o
+    case : (o : Outcome) → on_answer no yes (alone_case refused accepted o) ≡ alone_case no yes o
     case (Loaded sync end writes jumped) = refl
     case (OutcomeIprog place) = refl
     case (Stuck place) = refl
 
-    go : (b : Bool) (o : Outcome) → on_answer refused accepted (ask b (ImageRefused 4 0) (alone_case ImageRefused Accepted o)) ≡ ask b (refused 4 0) (alone_case refused accepted o)
+    go : (b : Bool) (o : Outcome) → on_answer no yes (ask b (refused BadImageLength 0) (alone_case refused accepted o)) ≡ ask b (no BadImageLength 0) (alone_case no yes o)
     go true o = case o
     go false o = refl
 
 -- An image's writes, and the cursor before them, go by its answer.
-pub write_by_answer : (image : List ℕ) (k : ℕ) → on_answer WriteRefused (λ sync end writes. nth_write (listed image (read_alone image)) k) (image_answer spi image) ≡ image_write spi image k
+pub write_by_answer : (image : List ℕ) (k : ℕ) → on_answer refused (λ sync end writes. Ok (nth_write (listed image (read_alone image)) k)) (image_answer spi image) ≡ image_write spi image k
 unfolding image_answer image_write
-write_by_answer image k = by_answer WriteRefused (λ sync end writes. nth_write (listed image (read_alone image)) k) longest_image image
+write_by_answer image k = by_answer refused (λ sync end writes. Ok (nth_write (listed image (read_alone image)) k)) longest_image image
 
-pub listing_by_answer : (image : List ℕ) → on_answer ListingRefused (λ sync end writes. ListingOpen (cursor_at (sync + 4) writes)) (image_answer spi image) ≡ image_listing spi image
+pub listing_by_answer : (image : List ℕ) → on_answer refused (λ sync end writes. Ok (cursor_at (sync + 4) writes)) (image_answer spi image) ≡ image_listing spi image
 unfolding image_answer image_listing
-listing_by_answer image = by_answer ListingRefused (λ sync end writes. ListingOpen (cursor_at (sync + 4) writes)) longest_image image
+listing_by_answer image = by_answer refused (λ sync end writes. Ok (cursor_at (sync + 4) writes)) longest_image image
 
 -- What reads alone to Loaded has not jumped.
 pub alone_stays : (image : List ℕ) (sync end writes : ℕ) (jumped : Bool) → read_alone image ≡ Loaded sync end writes jumped → jumped ≡ false
 alone_stays image sync end writes jumped e = (alone_parts false image 0 sync end writes jumped e).2
 
 -- An accepted image reads alone to Loaded.
-pub accepted_reads : (longest : ℕ) (image : List ℕ) (sync end writes : ℕ) → ask_image spi longest ImageRefused Accepted image ≡ Accepted sync end writes → read_alone image ≡ Loaded sync end writes false
+pub accepted_reads : (longest : ℕ) (image : List ℕ) (sync end writes : ℕ) → ask_image spi longest refused accepted image ≡ accepted sync end writes → read_alone image ≡ Loaded sync end writes false
 unfolding ask alone_case
 accepted_reads longest image sync end writes e = go (image_length_allowed longest (length image)) (read_alone image) refl e
   where
-    go : (b : Bool) (o : Outcome) → read_alone image ≡ o → ask b (ImageRefused 4 0) (alone_case ImageRefused Accepted o) ≡ Accepted sync end writes → read_alone image ≡ Loaded sync end writes false
-    go false o r q = let z : ◌≡◌ {A = ℕ} 0 1 = cc in absurd (omega arith)
+    go : (b : Bool) (o : Outcome) → read_alone image ≡ o → ask b (refused BadImageLength 0) (alone_case refused accepted o) ≡ accepted sync end writes → read_alone image ≡ Loaded sync end writes false
+    go false o r q = cc
     go true (Loaded a b n after) r q =
         let f : after ≡ false = alone_stays image a b n after r in
         r ∙ cc
-    go true (OutcomeIprog place) r q = let z : ◌≡◌ {A = ℕ} 0 1 = cc in absurd (omega arith)
-    go true (Stuck place) r q = let z : ◌≡◌ {A = ℕ} 0 1 = cc in absurd (omega arith)
+    go true (OutcomeIprog place) r q = cc
+    go true (Stuck place) r q = cc
 
 -- so its writes are those after its sync word,
-pub accepted_lists : (image : List ℕ) (sync end writes : ℕ) → image_answer spi image ≡ Accepted sync end writes → listed image (read_alone image) ≡ writes_from image (sync + 4)
+pub accepted_lists : (image : List ℕ) (sync end writes : ℕ) → image_answer spi image ≡ accepted sync end writes → listed image (read_alone image) ≡ writes_from image (sync + 4)
 unfolding image_answer listed
 accepted_lists image sync end writes e = ap (λ (o : Outcome). listed image o) (accepted_reads longest_image image sync end writes e)
 
 -- and it has a byte at least and fits its area,
-pub accepted_length : (longest : ℕ) (image : List ℕ) (sync end writes : ℕ) → ask_image spi longest ImageRefused Accepted image ≡ Accepted sync end writes → (1 ≤ length image) × (length image ≤ longest)
+pub accepted_length : (longest : ℕ) (image : List ℕ) (sync end writes : ℕ) → ask_image spi longest refused accepted image ≡ accepted sync end writes → (1 ≤ length image) × (length image ≤ longest)
 accepted_length longest image sync end writes e =
-    image_length_range longest (length image) (asked _ _ _ _ e (λ q. let z : ◌≡◌ {A = ℕ} 0 1 = cc in omega arith)).0
+    image_length_range longest (length image) (asked _ _ _ _ e (λ q. cc)).0
 
 -- and its sync word stands whole in it.
-pub accepted_sync : (longest : ℕ) (image : List ℕ) (sync end writes : ℕ) → ask_image spi longest ImageRefused Accepted image ≡ Accepted sync end writes → sync + 4 ≤ length image
+pub accepted_sync : (longest : ℕ) (image : List ℕ) (sync end writes : ℕ) → ask_image spi longest refused accepted image ≡ accepted sync end writes → sync + 4 ≤ length image
 unfolding Proper
 accepted_sync longest image sync end writes e = (rw (accepted_reads longest image sync end writes e) at (proper 0 false image 0 (omega arith))).0
 
@@ -104,19 +106,19 @@ opened_remaining left jumped s from l = go (read_from left jumped s from) (prope
     go (Stuck place) p = refl
 
 -- The k-th step of a cursor opened on a chip, or on an image, gives the k-th write of the chip, or of the image read alone.
-pub chip_steps : (chip : List ℕ) (k : ℕ) → chip_length_allowed (length chip) ≡ true → step_write (nth_step chip k (step_of chip (cursor_of (read_chip chip)))) ≡ chip_write spi chip k
+pub chip_steps : (chip : List ℕ) (k : ℕ) → chip_length_allowed (length chip) ≡ true → Ok (step_write (nth_step chip k (step_of chip (cursor_of (read_chip chip))))) ≡ chip_write spi chip k
 unfolding chip_write ask
 chip_steps chip k e =
-    nth_step_law k chip (cursor_of (read_chip chip))
-    ∙ ap (λ (l : List Write). nth_write l k) (opened_remaining 1 false chip 0 (omega arith))
+    ap (λ (w : Option Write). Ok w) (nth_step_law k chip (cursor_of (read_chip chip))
+    ∙ ap (λ (l : List Write). nth_write l k) (opened_remaining 1 false chip 0 (omega arith)))
     ∙ rw e refl
 
-pub image_steps : (image : List ℕ) (sync end writes k : ℕ) → image_answer spi image ≡ Accepted sync end writes → step_write (nth_step image k (step_of image (cursor_at (sync + 4) writes))) ≡ image_write spi image k
+pub image_steps : (image : List ℕ) (sync end writes k : ℕ) → image_answer spi image ≡ accepted sync end writes → Ok (step_write (nth_step image k (step_of image (cursor_at (sync + 4) writes)))) ≡ image_write spi image k
 unfolding image_answer on_answer Proper
 image_steps image sync end writes k e =
     let p = rw (accepted_reads longest_image image sync end writes e) at (proper 0 false image 0 (omega arith)) in
-    nth_step_law k image (cursor_at (sync + 4) writes)
-    ∙ ap (λ (l : List Write). nth_write l k) (counted_remaining image sync end writes p.1 ∙ sym (accepted_lists image sync end writes e))
+    ap (λ (w : Option Write). Ok w) (nth_step_law k image (cursor_at (sync + 4) writes)
+    ∙ ap (λ (l : List Write). nth_write l k) (counted_remaining image sync end writes p.1 ∙ sym (accepted_lists image sync end writes e)))
     ∙ (rw e at (write_by_answer image k))
 
 -- A reading that is Loaded lists as many writes as it counts.
@@ -127,37 +129,41 @@ listed_length left jumped s from sync end writes after l e =
     sym (counted (trace_from s (sync + 4)) 0 0 end writes p.1 ∙ zero-add (length (writes_from s (sync + 4))))
 
 -- A chip's boot answer is Loaded exactly when its reading is.
-pub boots : (chip : List ℕ) (sync end writes : ℕ) (jumped : Bool) → chip_length_allowed (length chip) ≡ true → read_chip chip ≡ Loaded sync end writes jumped → boot_answer spi chip ≡ BootLoaded sync end writes jumped
+pub boots : (chip : List ℕ) (sync end writes : ℕ) (jumped : Bool) → chip_length_allowed (length chip) ≡ true → read_chip chip ≡ Loaded sync end writes jumped → boot_answer spi chip ≡ Ok (BootLoaded sync end writes jumped)
 unfolding boot_answer boot_case ask
 boots chip sync end writes jumped l e = rw (l, e) refl
 
-pub booted : (chip : List ℕ) (sync end writes : ℕ) (jumped : Bool) → boot_answer spi chip ≡ BootLoaded sync end writes jumped → read_chip chip ≡ Loaded sync end writes jumped
+pub booted : (chip : List ℕ) (sync end writes : ℕ) (jumped : Bool) → boot_answer spi chip ≡ Ok (BootLoaded sync end writes jumped) → read_chip chip ≡ Loaded sync end writes jumped
 unfolding boot_answer boot_case
-booted chip sync end writes jumped e = go (read_chip chip) refl (asked _ _ _ _ e (λ q. let z : ◌≡◌ {A = ℕ} 0 1 = cc in omega arith)).1
+booted chip sync end writes jumped e = go (read_chip chip) refl (asked _ _ _ _ e (λ q. cc)).1
   where
-    go : (o : Outcome) → read_chip chip ≡ o → boot_case o ≡ BootLoaded sync end writes jumped → read_chip chip ≡ Loaded sync end writes jumped
+    go : (o : Outcome) → read_chip chip ≡ o → Ok {E = Refusal} (boot_case o) ≡ Ok (BootLoaded sync end writes jumped) → read_chip chip ≡ Loaded sync end writes jumped
     go (Loaded a b n after) r q = r ∙ cc
-    go (OutcomeIprog place) r q = let z : ◌≡◌ {A = ℕ} 0 1 = cc in absurd (omega arith)
-    go (Stuck place) r q = let z : ◌≡◌ {A = ℕ} 0 1 = cc in absurd (omega arith)
+    go (OutcomeIprog place) r q = cc
+    go (Stuck place) r q = cc
 
 -- An image that reads alone to Loaded is accepted, if it is not too long.
-pub accepts : (image : List ℕ) (sync end writes : ℕ) (jumped : Bool) → 1 ≤ length image → length image ≤ longest_image → read_alone image ≡ Loaded sync end writes jumped → image_answer spi image ≡ Accepted sync end writes
+pub accepts : (image : List ℕ) (sync end writes : ℕ) (jumped : Bool) → 1 ≤ length image → length image ≤ longest_image → read_alone image ≡ Loaded sync end writes jumped → image_answer spi image ≡ accepted sync end writes
 unfolding image_answer image_length_allowed alone_case ask
 accepts image sync end writes jumped long short e = rw (le-leb 1 (length image) long, le-leb (length image) longest_image short, e) refl
 
 -- A chip that loads an image whole has the image's writes, one by one, places apart.
 nth_content : (a b : List Write) (i : ℕ) → contents a ≡ contents b → content_of (nth_write a i) ≡ content_of (nth_write b i)
-unfolding nth_write content_of
+unfolding nth_write
 nth_content [] [] i e = refl
-nth_content [] (w ∷ b) i e = let z : ◌≡◌ {A = ℕ} 0 1 = cc in absurd (omega arith)
-nth_content (w ∷ a) [] i e = let z : ◌≡◌ {A = ℕ} 0 1 = cc in absurd (omega arith)
-nth_content (v ∷ a) (w ∷ b) zero e = let q : ◌≡◌ {A = ℕ × ℕ} (v.register, v.word) (w.register, w.word) = cc in ap (λ (p : ℕ × ℕ). some p) q
+nth_content [] (w ∷ b) i e = cc
+nth_content (w ∷ a) [] i e = cc
+nth_content (v ∷ a) (w ∷ b) zero e = let q : ◌≡◌ {A = ℕ × ℕ} (v.register, v.word) (w.register, w.word) = cc in ap (λ (p : ℕ × ℕ). Some p) q
 nth_content (v ∷ a) (w ∷ b) (suc i) e = nth_content a b i cc
 
-pub whole_writes : (chip image : List ℕ) (sync end writes : ℕ) → chip_length_allowed (length chip) ≡ true → image_answer spi image ≡ Accepted sync end writes → contents (listed chip (read_chip chip)) ≡ contents (listed image (read_alone image)) →
-    (i : ℕ) → content_of (chip_write spi chip i) ≡ content_of (image_write spi image i)
+-- the answer of a call for a write, its place apart
+abbrev written : Result (Option Write) Refusal → Result (Option (ℕ × ℕ)) Refusal
+written answer = result_map_both content_of (λ r. r) answer
+
+pub whole_writes : (chip image : List ℕ) (sync end writes : ℕ) → chip_length_allowed (length chip) ≡ true → image_answer spi image ≡ accepted sync end writes → contents (listed chip (read_chip chip)) ≡ contents (listed image (read_alone image)) →
+    (i : ℕ) → result_map_both content_of (λ r. r) (chip_write spi chip i) ≡ result_map_both content_of (λ r. r) (image_write spi image i)
 unfolding chip_write image_answer on_answer ask listed
 whole_writes chip image sync end writes l e same i =
-    let own : nth_write (listed image (read_alone image)) i ≡ image_write spi image i = rw e at (write_by_answer image i) in
-    rw l (nth_content (listed chip (read_chip chip)) (listed image (read_alone image)) i same)
-    ∙ ap content_of own
+    let own : Ok (nth_write (listed image (read_alone image)) i) ≡ image_write spi image i = rw e at (write_by_answer image i) in
+    rw l (ap (λ (w : Option (ℕ × ℕ)). Ok {E = Refusal} w) (nth_content (listed chip (read_chip chip)) (listed image (read_alone image)) i same))
+    ∙ ap written own
