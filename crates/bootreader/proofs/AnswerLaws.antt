@@ -21,7 +21,7 @@ use Rattle.kind.specs.Layout.{chip_length_allowed, image_length_allowed}
 use Rattle.bootreader.specs.Image.{longest_image, accepted, alone_case, ask_image, image_answer, image_write, image_listing}
 use Rattle.bootreader.specs.Boot.{boot_case, boot_answer, cursor_of, chip_write}
 use Rattle.bootreader.specs.Theorems.{WritesCounted}
-use Rattle.bootreader.specs.Types.{Reason, BadImageLength, Refusal, Outcome, Loaded, OutcomeIprog, Stuck, BootLoaded, Accepted, FinishEnded, Write, Cursor}
+use Rattle.bootreader.specs.Types.{Reason, BadImageLength, Refusal, Outcome, Loaded, OutcomeIprog, Stuck, Boot, BootLoaded, Accepted, FinishEnded, Write, Cursor}
 use Rattle.kind.proofs.Laws.{image_length_range}
 use Rattle.base.proofs.Laws.{asked}
 use Rattle.packets.proofs.Laws.{counted}
@@ -30,21 +30,21 @@ use Rattle.writes.proofs.Laws.{nth_step_law}
 
 -- what an image's answer comes to for one who asks more
 unfoldable pub on_answer {ℓ} : {A : Type ℓ} → (Reason → ℕ → A) → (ℕ → ℕ → ℕ → A) → Result Accepted Refusal → A
-on_answer no yes (Ok image) = yes image.sync image.end image.writes
-on_answer no yes (Err r) = no r.reason r.place
+on_answer refuse accept (Ok image) = accept image.sync image.end image.writes
+on_answer refuse accept (Err r) = refuse r.reason r.place
 
 -- Whatever is asked of an image goes by its answer.
-pub by_answer {ℓ} : {A : Type ℓ} (no : Reason → ℕ → A) (yes : ℕ → ℕ → ℕ → A) (longest : ℕ) (image : List ℕ) →
-    on_answer no yes (ask_image spi longest refused accepted image) ≡ ask_image spi longest no yes image
+pub by_answer {ℓ} : {A : Type ℓ} (refuse : Reason → ℕ → A) (accept : ℕ → ℕ → ℕ → A) (longest : ℕ) (image : List ℕ) →
+    on_answer refuse accept (ask_image spi longest refused accepted image) ≡ ask_image spi longest refuse accept image
 unfolding ask on_answer alone_case
-by_answer no yes longest image = go (image_length_allowed longest (length image)) (read_alone image)
+by_answer refuse accept longest image = go (image_length_allowed longest (length image)) (read_alone image)
   where
-    case : (o : Outcome) → on_answer no yes (alone_case refused accepted o) ≡ alone_case no yes o
+    case : (o : Outcome) → on_answer refuse accept (alone_case refused accepted o) ≡ alone_case refuse accept o
     case (Loaded sync end writes jumped) = refl
     case (OutcomeIprog place) = refl
     case (Stuck place) = refl
 
-    go : (b : Bool) (o : Outcome) → on_answer no yes (ask b (refused BadImageLength 0) (alone_case refused accepted o)) ≡ ask b (no BadImageLength 0) (alone_case no yes o)
+    go : (b : Bool) (o : Outcome) → on_answer refuse accept (ask b (refused BadImageLength 0) (alone_case refused accepted o)) ≡ ask b (refuse BadImageLength 0) (alone_case refuse accept o)
     go true o = case o
     go false o = refl
 
@@ -70,7 +70,8 @@ accepted_reads longest image sync end writes e = go (image_length_allowed longes
     go false o r q = cc
     go true (Loaded a b n after) r q =
         let f : after ≡ false = alone_stays image a b n after r in
-        r ∙ cc
+        let same : ◌≡◌ {A = Accepted} (record { sync = a; end = b; writes = n }) (record { sync = sync; end = end; writes = writes }) = cc in
+        r ∙ cc (ap (λ (i : Accepted). i.sync) same, ap (λ (i : Accepted). i.end) same, ap (λ (i : Accepted). i.writes) same)
     go true (OutcomeIprog place) r q = cc
     go true (Stuck place) r q = cc
 
@@ -88,6 +89,46 @@ accepted_length longest image sync end writes e =
 pub accepted_sync : (longest : ℕ) (image : List ℕ) (sync end writes : ℕ) → ask_image spi longest refused accepted image ≡ accepted sync end writes → sync + 4 ≤ length image
 unfolding Proper
 accepted_sync longest image sync end writes e = (rw (accepted_reads longest image sync end writes e) at (proper 0 false image 0 (omega arith))).0
+
+-- What the calls that go by the image check answer, and that its sync word has a place after it.
+pub image_room : (image : List ℕ) (a : Accepted) → image_answer spi image ≡ Ok a → a.sync + 4 ≤ length image
+unfolding image_answer
+image_room image a e = accepted_sync longest_image image a.sync a.end a.writes e
+
+pub write_refused : (image : List ℕ) (k : ℕ) (r : Refusal) → image_answer spi image ≡ Err r → Err r ≡ image_write spi image k
+unfolding on_answer
+write_refused image k r e = rw e at (write_by_answer image k)
+
+pub write_accepted : (image : List ℕ) (k : ℕ) (a : Accepted) → image_answer spi image ≡ Ok a → Ok (nth_write (writes_from image (a.sync + 4)) k) ≡ image_write spi image k
+unfolding on_answer
+write_accepted image k a e =
+    ap (λ (l : List Write). let answer : Result (Option Write) Refusal = Ok (nth_write l k) in answer) (sym (accepted_lists image a.sync a.end a.writes e))
+    ∙ rw e at (write_by_answer image k)
+
+pub listing_refused : (image : List ℕ) (r : Refusal) → image_answer spi image ≡ Err r → Err r ≡ image_listing spi image
+unfolding on_answer
+listing_refused image r e = rw e at (listing_by_answer image)
+
+pub listing_accepted : (image : List ℕ) (a : Accepted) → image_answer spi image ≡ Ok a → Ok (cursor_at (a.sync + 4) a.writes) ≡ image_listing spi image
+unfolding on_answer
+listing_accepted image a e = rw e at (listing_by_answer image)
+
+-- The same of a chip that is read.
+pub chip_room : (chip : List ℕ) (sync end writes : ℕ) (jumped : Bool) → read_chip chip ≡ Loaded sync end writes jumped → sync + 4 ≤ length chip
+unfolding Proper
+chip_room chip sync end writes jumped e = (rw e at (proper 1 false chip 0 (omega arith))).0
+
+pub lists_none : (chip : List ℕ) (o : Outcome) → ((sync end writes : ℕ) (jumped : Bool) → o ≡ Loaded sync end writes jumped → ⊥) → listed chip o ≡ []
+unfolding listed
+lists_none chip (Loaded sync end writes jumped) h = absurd (h sync end writes jumped refl)
+lists_none chip (OutcomeIprog place) h = refl
+lists_none chip (Stuck place) h = refl
+
+pub cursor_none : (o : Outcome) → ((sync end writes : ℕ) (jumped : Bool) → o ≡ Loaded sync end writes jumped → ⊥) → cursor_of o ≡ cursor_at 0 0
+unfolding cursor_of
+cursor_none (Loaded sync end writes jumped) h = absurd (h sync end writes jumped refl)
+cursor_none (OutcomeIprog place) h = refl
+cursor_none (Stuck place) h = refl
 
 counted_remaining : (s : List ℕ) (sync end writes : ℕ) → finish_from s (sync + 4) ≡ FinishEnded end writes → remaining_writes s (cursor_at (sync + 4) writes) ≡ writes_from s (sync + 4)
 unfolding mode_of
@@ -109,7 +150,7 @@ opened_remaining left jumped s from l = go (read_from left jumped s from) (prope
 pub chip_steps : (chip : List ℕ) (k : ℕ) → chip_length_allowed (length chip) ≡ true → Ok (step_write (nth_step chip k (step_of chip (cursor_of (read_chip chip))))) ≡ chip_write spi chip k
 unfolding chip_write ask
 chip_steps chip k e =
-    ap (λ (w : Option Write). Ok w) (nth_step_law k chip (cursor_of (read_chip chip))
+    ap (λ (w : Option Write). let answer : Result (Option Write) Refusal = Ok w in answer) (nth_step_law k chip (cursor_of (read_chip chip))
     ∙ ap (λ (l : List Write). nth_write l k) (opened_remaining 1 false chip 0 (omega arith)))
     ∙ rw e refl
 
@@ -117,7 +158,7 @@ pub image_steps : (image : List ℕ) (sync end writes k : ℕ) → image_answer 
 unfolding image_answer on_answer Proper
 image_steps image sync end writes k e =
     let p = rw (accepted_reads longest_image image sync end writes e) at (proper 0 false image 0 (omega arith)) in
-    ap (λ (w : Option Write). Ok w) (nth_step_law k image (cursor_at (sync + 4) writes)
+    ap (λ (w : Option Write). let answer : Result (Option Write) Refusal = Ok w in answer) (nth_step_law k image (cursor_at (sync + 4) writes)
     ∙ ap (λ (l : List Write). nth_write l k) (counted_remaining image sync end writes p.1 ∙ sym (accepted_lists image sync end writes e)))
     ∙ (rw e at (write_by_answer image k))
 
@@ -137,7 +178,7 @@ pub booted : (chip : List ℕ) (sync end writes : ℕ) (jumped : Bool) → boot_
 unfolding boot_answer boot_case
 booted chip sync end writes jumped e = go (read_chip chip) refl (asked _ _ _ _ e (λ q. cc)).1
   where
-    go : (o : Outcome) → read_chip chip ≡ o → Ok {E = Refusal} (boot_case o) ≡ Ok (BootLoaded sync end writes jumped) → read_chip chip ≡ Loaded sync end writes jumped
+    go : (o : Outcome) → read_chip chip ≡ o → ◌≡◌ {A = Result Boot Refusal} (Ok (boot_case o)) (Ok (BootLoaded sync end writes jumped)) → read_chip chip ≡ Loaded sync end writes jumped
     go (Loaded a b n after) r q = r ∙ cc
     go (OutcomeIprog place) r q = cc
     go (Stuck place) r q = cc
@@ -165,5 +206,5 @@ pub whole_writes : (chip image : List ℕ) (sync end writes : ℕ) → chip_leng
 unfolding chip_write image_answer on_answer ask listed
 whole_writes chip image sync end writes l e same i =
     let own : Ok (nth_write (listed image (read_alone image)) i) ≡ image_write spi image i = rw e at (write_by_answer image i) in
-    rw l (ap (λ (w : Option (ℕ × ℕ)). Ok {E = Refusal} w) (nth_content (listed chip (read_chip chip)) (listed image (read_alone image)) i same))
+    rw l (ap (λ (w : Option (ℕ × ℕ)). let answer : Result (Option (ℕ × ℕ)) Refusal = Ok w in answer) (nth_content (listed chip (read_chip chip)) (listed image (read_alone image)) i same))
     ∙ ap written own

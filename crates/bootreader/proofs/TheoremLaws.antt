@@ -28,7 +28,7 @@ unfolding chip_listing
 opened_chip chip c e k =
     let q = asked _ _ _ _ e (λ q. cc) in
     let same : cursor_of (read_chip chip) ≡ c = cc in
-    ap (λ (d : Cursor). Ok (step_write (nth_step chip k (step_of chip d)))) (sym same) ∙ chip_steps chip k q.0
+    ap (λ (d : Cursor). let answer : Result (Option Write) Refusal = Ok (step_write (nth_step chip k (step_of chip d))) in answer) (sym same) ∙ chip_steps chip k q.0
 
 -- or on an image that is accepted.
 opened_image : (image : List ℕ) (c : Cursor) → image_listing spi image ≡ Ok c → (k : ℕ) → Ok (step_write (nth_step image k (step_of image c))) ≡ image_write spi image k
@@ -39,7 +39,7 @@ opened_image image c e k = go (image_answer spi image) refl
     go (Ok a) q =
         let o = (rw q at (listing_by_answer image)) ∙ e in
         let same : cursor_at (a.sync + 4) a.writes ≡ c = cc in
-        ap (λ (d : Cursor). Ok (step_write (nth_step image k (step_of image d)))) (sym same) ∙ image_steps image a.sync a.end a.writes k q
+        ap (λ (d : Cursor). let answer : Result (Option Write) Refusal = Ok (step_write (nth_step image k (step_of image d))) in answer) (sym same) ∙ image_steps image a.sync a.end a.writes k q
     go (Err r) q =
         let o = (rw q at (listing_by_answer image)) ∙ e in
         cc
@@ -62,15 +62,21 @@ image_refusals longest image reason place e = go (image_length_allowed longest (
   where
     go : (b : Bool) (o : Outcome) → read_alone image ≡ o → ask b (refused BadImageLength 0) (alone_case refused accepted o) ≡ refused reason place →
         (number_of BadImageLength ≤ number_of reason) × (number_of reason ≤ number_of ImageJumps) × (place ≤ length image)
-    go false o r q = let n : BadImageLength ≡ reason = cc in let p : 0 ≡ place = cc in rw (sym n) (omega arith, omega arith, omega arith)
+    go false o r q =
+        let same : ◌≡◌ {A = Refusal} (record { reason = BadImageLength; place = 0 }) (record { reason = reason; place = place }) = cc in
+        let n : BadImageLength ≡ reason = ap (λ (x : Refusal). x.reason) same in
+        let p : 0 ≡ place = ap (λ (x : Refusal). x.place) same in
+        rw (sym n) (omega arith, omega arith, omega arith)
     go true (Loaded sync end writes jumped) r q = cc
     go true (OutcomeIprog at) r q =
-        let n : ImageJumps ≡ reason = cc in
-        let p : at ≡ place = cc in
+        let same : ◌≡◌ {A = Refusal} (record { reason = ImageJumps; place = at }) (record { reason = reason; place = place }) = cc in
+        let n : ImageJumps ≡ reason = ap (λ (x : Refusal). x.reason) same in
+        let p : at ≡ place = ap (λ (x : Refusal). x.place) same in
         let w = faults_within.iprog 0 false image 0 at (omega arith) r in
         rw (sym n) (omega arith, omega arith, omega arith)
     go true (Stuck at) r q =
-        let n : ImageFault ≡ reason = cc in
-        let p : at ≡ place = cc in
+        let same : ◌≡◌ {A = Refusal} (record { reason = ImageFault; place = at }) (record { reason = reason; place = place }) = cc in
+        let n : ImageFault ≡ reason = ap (λ (x : Refusal). x.reason) same in
+        let p : at ≡ place = ap (λ (x : Refusal). x.place) same in
         let w = faults_within.stuck 0 false image 0 at (omega arith) r in
         rw (sym n) (omega arith, omega arith, omega arith)

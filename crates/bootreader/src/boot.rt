@@ -27,6 +27,7 @@ pub enum Boot {
 
 // What a chip loads: the place of the last sync word, the place after the last word, the number of writes, jumped or
 // not; or where it is stuck; or refusal 1.
+#[tactic(auto, unfolding(crate::specs::Boot::boot_answer, crate::specs::Boot::boot_case, base::specs::Question::ask), using(base::proofs::Laws::gives))]
 pub fn answer(chip: &[u8]) -> Result<Boot, Refusal>
     ensures { Gives boot_numbers result (boot_answer spi chip.now) }
 {
@@ -49,6 +50,7 @@ pub fn answer(chip: &[u8]) -> Result<Boot, Refusal>
 }
 
 // The i-th write, counted from 0, of what a chip loads: register, word, place; or that there is none; or refusal 1.
+#[tactic(auto, unfolding(crate::specs::Boot::chip_write, base::specs::Question::ask, configreader::specs::Configreader::listed, packets::specs::Trace::nth_write), using(crate::proofs::AnswerLaws::chip_room, crate::proofs::AnswerLaws::lists_none, base::proofs::Laws::gives))]
 pub fn write(chip: &[u8], i: usize) -> Result<Option<Write>, Refusal>
     ensures { Gives write_numbers result (chip_write spi chip.now i) }
 {
@@ -60,6 +62,7 @@ pub fn write(chip: &[u8], i: usize) -> Result<Option<Write>, Refusal>
 }
 
 // A cursor before the first write of what a chip loads, which has none to give on a chip that is stuck; or refusal 1.
+#[tactic(auto, unfolding(crate::specs::Boot::chip_listing, crate::specs::Boot::cursor_of, base::specs::Question::ask), using(crate::proofs::AnswerLaws::chip_room, crate::proofs::AnswerLaws::cursor_none, base::proofs::Laws::gives))]
 pub fn writes(chip: &[u8]) -> Result<Cursor, Refusal>
     ensures { Gives listing_numbers result (chip_listing spi chip.now) }
 {

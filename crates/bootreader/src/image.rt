@@ -24,6 +24,7 @@ pub struct Accepted {
 }
 
 // What a reading of an image alone loads; or refusal 5 or 6, at its faulty word.
+#[tactic(auto, unfolding(crate::specs::Image::alone_case))]
 fn accept(outcome: Outcome) -> Result<Accepted, Refusal>
     ensures { result ≡ alone_case refused accepted outcome }
 {
@@ -46,6 +47,7 @@ fn accept(outcome: Outcome) -> Result<Accepted, Refusal>
 }
 
 // What an image loads by itself, for an area of `longest` bytes: sync, end, writes; or refusal 4, 5 or 6.
+#[tactic(auto, unfolding(base::specs::Question::ask), using(base::proofs::Laws::gives))]
 pub fn check_within(image: &[u8], longest: usize) -> Result<Accepted, Refusal>
     ensures { Gives image_numbers result (image_within spi longest image.now) }
 {
@@ -54,6 +56,7 @@ pub fn check_within(image: &[u8], longest: usize) -> Result<Accepted, Refusal>
 }
 
 // What an image loads by itself, with no area that it must fit into: sync, end, writes; or refusal 4, 5 or 6.
+#[tactic(auto, unfolding(crate::specs::Image::image_answer))]
 pub fn check(image: &[u8]) -> Result<Accepted, Refusal>
     ensures { Gives image_numbers result (image_answer spi image.now) }
 {
@@ -61,6 +64,7 @@ pub fn check(image: &[u8]) -> Result<Accepted, Refusal>
 }
 
 // The i-th write, counted from 0, of an image read by itself, or that there is none; or refusal 4, 5 or 6.
+#[tactic(auto, using(crate::proofs::AnswerLaws::image_room, crate::proofs::AnswerLaws::write_refused, crate::proofs::AnswerLaws::write_accepted, base::proofs::Laws::gives))]
 pub fn write(image: &[u8], i: usize) -> Result<Option<Write>, Refusal>
     ensures { Gives write_numbers result (image_write spi image.now i) }
 {
@@ -69,6 +73,7 @@ pub fn write(image: &[u8], i: usize) -> Result<Option<Write>, Refusal>
 }
 
 // A cursor before the first write of an image read by itself; or refusal 4, 5 or 6.
+#[tactic(auto, using(crate::proofs::AnswerLaws::image_room, crate::proofs::AnswerLaws::listing_refused, crate::proofs::AnswerLaws::listing_accepted, base::proofs::Laws::gives))]
 pub fn writes(image: &[u8]) -> Result<Cursor, Refusal>
     ensures { Gives listing_numbers result (image_listing spi image.now) }
 {
