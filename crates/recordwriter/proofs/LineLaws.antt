@@ -1,19 +1,21 @@
 -- Laws of a record's line: its parts, how long it is, and that it is the record's text.
-use Prim.Native.Nat.{ℕ, ◌+◌, ◌*◌, ◌/◌, ◌%◌, ◌≤◌}
+use Prim.Native.Nat.{ℕ, ◌+◌, ◌*◌, ◌/◌, ◌%◌, ◌<◌, ◌≤◌}
 use mathlib.Core.Path.{◌≡◌, refl, sym, ap, ◌∙◌}
 use mathlib.Core.List.{List, [], ◌∷◌, ◌++◌}
 use native.Mathlib.Omega.{arith}
-use lib.ListN.{length, take, drop, length-drop}
-use lib.Seq.{length-take-le}
+use lib.ListN.{length}
+use Rattle.std.specs.Int.{w16, to_be_bytes}
 use Rattle.digits.specs.Digit.{hex}
 use Rattle.digits.proofs.Laws.{hex_append}
 use Rattle.mcsline.specs.Record.{LF, COLON, Lf, ending_text, line_text, Data, ExtendedLinearAddress, End, header, body, body_of, checksum, pairs_of, Row, record_text}
 use Rattle.mcsline.proofs.Laws.{summed_long}
 use Rattle.recordwriter.specs.Record.{line_of}
 
--- So many bytes from a place on are so many.
-pub span_long : (bytes : List ℕ) (from count : ℕ) → from + count ≤ length bytes → length (take count (drop from bytes)) ≡ count
-span_long bytes from count h = length-take-le count (drop from bytes) (omega (arith, length-drop from bytes))
+-- The two bytes of a number of 16 bits.
+pub two_bytes : (n : ℕ) (bytes : List ℕ) → n < 65536 → bytes ≡ to_be_bytes w16 n → bytes ≡ n / 256 ∷ n % 256 ∷ []
+two_bytes n bytes small e =
+    let high : n / 256 % 256 ≡ n / 256 = omega arith in
+    e ∙ ap (λ (k : ℕ). k ∷ n % 256 ∷ []) high
 
 module _ (kind address : ℕ) (bytes : List ℕ) where
   -- The pairs before the data, the data, the sum and LF are the line.

@@ -1,29 +1,57 @@
--- `part::put_part` meets its contract. The loop's invariant: the lines of the bytes so far were put.
-use native.Mathlib.Omega.{arith}
-use lib.Seq.{take_all}
-use Rattle.recordwriter.proofs.PartLaws.{written_none, room_more, written_more}
+-- `part::put_part` meets its contract. The loop's invariant: the lines of the bytes that are left, put at the next place, give what those of all bytes give.
+use Rattle.std.proofs.Common.{◌≡◌, ◌∙◌, ap, rules, arith}
+use Rattle.recordwriter.proofs.PartLaws.{going_start, going_done, going_room, going_on}
 use Rattle.recordwriter.proofs.part.put_part.Goals as goal
 
-pub loop-done-init : goal.loop-done-init
-loop-done-init c = let args = c.args in written_none args.start args.part.now args.out.now args.to (omega arith)
+pub loop-bytes-init : goal.loop-bytes-init
+loop-bytes-init c =
+    let rest : c.into_iter-bytes-iterator.result.rest.now ≡ c.args.part.now = ap (λ s. s.rest.now) c.into_iter-bytes-iterator.ensures.into_iter_gives ∙ c.chunks-bytes-items.ensures.rest in
+    record { sixteen = search rules; going = rw rest (going_start c.args.start c.args.part.now c.args.out.now c.args.to c.requires.1) }
 
 pub put_upper-at-requires : goal.put_upper-at-requires
-put_upper-at-requires c = omega (arith, room_more c.loop-done.invariant c.loop-done-test.true c.min-count.ensures c.requires.1)
+put_upper-at-requires c =
+    let step = c.in-Some.ensures.steps.1 in
+    let room = going_room c.loop-bytes.invariant.going c.in-Some.bytes.now c.next.new.self.rest.now step.0 (rw c.loop-bytes.invariant.sixteen at step.1) step.2 in
+    (omega arith, omega arith)
 
 pub put_record-at-requires : goal.put_record-at-requires
-put_record-at-requires c = omega (arith, room_more c.loop-done.invariant c.loop-done-test.true c.min-count.ensures c.requires.1)
+put_record-at-requires c =
+    let step = c.in-Some.ensures.steps.1 in
+    let room = going_room c.loop-bytes.invariant.going c.in-Some.bytes.now c.next.new.self.rest.now step.0 (rw c.loop-bytes.invariant.sixteen at step.1) step.2 in
+    (omega arith, omega arith)
 
-pub loop-done-preserved : goal.loop-done-preserved
-loop-done-preserved c =
+pub overflow_add-place : goal.overflow_add-place
+overflow_add-place c =
+    let step = c.in-Some.ensures.steps.1 in
+    let room = going_room c.loop-bytes.invariant.going c.in-Some.bytes.now c.next.new.self.rest.now step.0 (rw c.loop-bytes.invariant.sixteen at step.1) step.2 in
+    omega arith
+
+pub loop-bytes-preserved : goal.loop-bytes-preserved
+loop-bytes-preserved c =
+    let steps = c.in-Some.ensures.steps in
     let upper = c.put_upper-at in
     let line = c.put_record-at in
-    written_more c.loop-done.invariant c.loop-done-test.true c.min-count.ensures c.requires.1 upper.new.out line.new.out upper.result line.result upper.ensures.place line.ensures.place upper.ensures.output line.ensures.output
+    record {
+      sixteen = steps.0 ∙ c.loop-bytes.invariant.sixteen;
+      going =
+          going_on
+          c.loop-bytes.invariant.going
+          c.in-Some.bytes.now
+          c.next.new.self.rest.now
+          steps.1.0
+          (rw c.loop-bytes.invariant.sixteen at steps.1.1)
+          steps.1.2
+          upper.new.out
+          line.new.out
+          upper.result
+          line.result
+          upper.ensures.place
+          line.ensures.place
+          upper.ensures.output
+          line.ensures.output;
+    }
 
 pub returns : goal.returns
 returns c =
-    let w = c.loop-done.invariant in
-    let all = take_all c.loop-done.done c.args.part.now c.loop-done-test.false in
-    record {
-      place = rw all at w.next;
-      output = rw all at w.put.is;
-    }
+    let done = going_done c.loop-bytes.invariant.going c.in-None.ensures.steps.1.0 in
+    record { place = done.0; output = done.1 }

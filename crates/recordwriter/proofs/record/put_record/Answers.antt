@@ -3,14 +3,14 @@ use Prim.Native.Nat.{ℕ, ◌+◌, ◌*◌, ◌≤◌}
 use mathlib.Core.Path.{◌≡◌, refl}
 use mathlib.Core.List.{List, [], ◌∷◌}
 use native.Mathlib.Omega.{arith}
-use lib.ListN.{length, take, drop, set}
+use lib.ListN.{length, set}
 use lib.Seq.{paste}
 use Rattle.digits.specs.Digit.{hex}
 use Rattle.digits.proofs.Laws.{hex_long}
 use Rattle.fields.proofs.Laws.{Put, paste_one, put_length, put_then, put_after}
 use Rattle.mcsline.specs.Record.{LF, COLON, checksum, header, body}
 use Rattle.recordwriter.specs.Record.{line_of}
-use Rattle.recordwriter.proofs.LineLaws.{span_long, line_parts}
+use Rattle.recordwriter.proofs.LineLaws.{line_parts}
 use Rattle.recordwriter.proofs.record.put_record.Goals as goal
 
 -- The parts that were put, given that the header counts the data and the sum is theirs.
@@ -30,11 +30,10 @@ put-parts out at kind address bytes count sum headed paired summed long is_sum r
 pub returns : goal.returns
 returns c =
     let args = c.args in
-    let bytes = take args.count (drop args.from args.bytes.now) in
-    let long = span_long args.bytes.now args.from args.count (omega arith) in
+    let bytes = args.bytes.now in
     let line =
-    put-parts args.out.now args.at args.kind args.address bytes args.count c.sum_of.result c.put_header.new.out c.put_pairs.new.out c.put_pair.new.out
-    long c.sum_of.ensures (omega arith) c.put_header.ensures c.put_pairs.ensures c.put_pair.ensures in
+    put-parts args.out.now args.at args.kind args.address bytes (length bytes) c.sum_of.result c.put_header.new.out c.put_pairs.new.out
+    c.put_pair.new.out refl c.sum_of.ensures (omega arith) c.put_header.ensures c.put_pairs.ensures c.put_pair.ensures in
     record {
       place = omega arith;
       output = line.is;
