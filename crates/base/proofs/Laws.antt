@@ -8,6 +8,9 @@ use borrow.Author.Tests.{eqb-true, eqb-false, ltb-true, ltb-false, leb-true, leb
 use mathlib.Core.List.{List, [], ◌∷◌, ◌++◌}
 use lib.Dec.{eqb, ltb, leb}
 use lib.ListN.{length, drop}
+use Rattle.std.specs.Prelude.{Result, Ok, Err}
+use Rattle.base.specs.Types.{Reason, Refusal}
+use Rattle.base.specs.Refusal.{refused}
 use Rattle.base.specs.Question.{ask}
 use Rattle.base.specs.Output.{front_filled}
 use Rattle.base.specs.Answer.{Numbered, Gives}
@@ -33,6 +36,17 @@ pub asked_yes : {A : Type 0} (b : Bool) (refused rest : A) → b ≡ true → as
 unfolding ask
 asked_yes true refused rest e = refl
 asked_yes false refused rest e = absurd (false_true e)
+
+-- What the answer to a question of the code tells: allowed, it had a yes; refused, it had a no, and that is the refusal.
+pub asked_ok : (b : Bool) (reason : Reason) → ask b (refused {A = Unit {0}} reason 0) (Ok tt) ≡ Ok tt → b ≡ true
+unfolding ask
+asked_ok true reason e = refl
+asked_ok false reason e = let z : ◌≡◌ {A = ℕ} 0 1 = cc in absurd (omega arith)
+
+pub asked_err : (b : Bool) (reason : Reason) (r : Refusal) → ask b (refused {A = Unit {0}} reason 0) (Ok tt) ≡ Err r → (b ≡ false) × (record { reason = reason; place = 0 } ≡ r)
+unfolding ask
+asked_err true reason r e = let z : ◌≡◌ {A = ℕ} 0 1 = cc in absurd (omega arith)
+asked_err false reason r e = (refl, cc)
 
 -- What holds of the refusal and of the rest holds of the answer.
 pub either_way {ℓ} : {A : Type ℓ} (P : A → Type 0) (b : Bool) (refused rest : A) → P refused → P rest → P (ask b refused rest)

@@ -13,8 +13,8 @@ use Rattle.framing.specs.Words.{word_at}
 use Rattle.base.specs.Question.{ask}
 use Rattle.configreader.specs.Configreader.{read_from, read_chip, read_alone, listed}
 use Rattle.packets.specs.Trace.{contents}
-use Rattle.bootreader.specs.Image.{image_within}
-use Rattle.chip.specs.Types.{Loaded, Accepted}
+use Rattle.bootreader.specs.Image.{image_within, accepted}
+use Rattle.chip.specs.Types.{Loaded}
 use Rattle.bootreader.proofs.Laws.{alone_stays, accepted_reads}
 use Rattle.kind.proofs.Laws.{chip_length_range, update_place_range}
 use Rattle.configreader.specs.Theorems.{NoneIn}
@@ -29,7 +29,7 @@ use Rattle.flash.proofs.Laws.{span_at, span_length}
 use Rattle.chip.proofs.SwitchLaws.{on_bytes, off_no_sync, spi_stays_off}
 
 -- An image that its check accepts loads by itself.
-pub accepted_alone : (longest : ℕ) (image : List ℕ) (sync end writes : ℕ) → image_within spi longest image ≡ Accepted sync end writes → LoadsAlone spi image
+pub accepted_alone : (longest : ℕ) (image : List ℕ) (sync end writes : ℕ) → image_within spi longest image ≡ accepted sync end writes → LoadsAlone spi image
 accepted_alone longest image sync end writes e = record { sync = sync; end = end; writes = writes; reading = accepted_reads longest image sync end writes e }
 
 -- bytes of which none begins a sync word

@@ -1,14 +1,17 @@
 -- Laws of the switch word: its bytes, and which words are ON on an SPI chip.
-use Prim.Native.Nat.{ℕ, ◌+◌, ◌<◌, ◌≤◌}
-use mathlib.Core.Path.{◌≡◌, sym, ◌∙◌}
-use mathlib.Core.Bool.{true, false}
-use mathlib.Core.List.{List}
+use Prim.Native.Nat.{ℕ, zero, suc, ◌+◌, ◌-◌, ◌<◌, ◌≤◌}
+use mathlib.Core.Path.{◌≡◌, refl, sym, ap, ◌∙◌}
+use mathlib.Core.Bool.{Bool, true, false, ◌&&◌}
+use mathlib.Core.List.{List, [], ◌∷◌}
 use native.Mathlib.Omega.{arith}
-use lib.ListN.{length, get_or, drop}
+use lib.Dec.{eqb}
+use lib.ListN.{length, get_or, take, drop}
+use Rattle.std.specs.List.{starts_with}
 use lib.Seq.{get_or-drop}
 use Rattle.framing.specs.Search.{sync_bytes, begins_with}
 use Rattle.base.proofs.Laws.{false_of, false_true}
 use Rattle.framing.proofs.Laws.{starts_at, starts_all, starts_differs}
+use Rattle.framing.proofs.SearchLaws.{starts_begins}
 use Rattle.kind.specs.Layout.{switch_at}
 use Rattle.flash.specs.Flash.{bit}
 use Rattle.kind.specs.Spi.{spi, spi_on}
@@ -17,6 +20,22 @@ use Rattle.flash.proofs.Laws.{span_at, span_length, same_bits}
 
 pub word_at_law : (chip : List ℕ) (j : ℕ) → j < 4 → get_or (switch_word chip) j 0 ≡ get_or chip (switch_at + j) 0
 word_at_law chip j h = span_at chip switch_at 4 j h
+
+-- What begins where a pattern does: more bytes after the pattern make no difference.
+pub begins_taken : (pattern bytes : List ℕ) (n : ℕ) → length pattern ≤ n → begins_with pattern (take n bytes) ≡ begins_with pattern bytes
+unfolding begins_with
+begins_taken [] bytes n h = refl
+begins_taken (p ∷ pattern) bytes zero h = absurd (omega arith)
+begins_taken (p ∷ pattern) [] (suc n) h = refl
+begins_taken (p ∷ pattern) (byte ∷ bytes) (suc n) h = ap (λ (b : Bool). eqb byte p && b) (begins_taken pattern bytes n (omega arith))
+
+-- The switch is ON where the bytes from its place on start with ON.
+pub is_on_by : (chip : List ℕ) {on : Bool} → 4096 ≤ length chip → on ≡ starts_with eqb (take (length chip - switch_at) (drop switch_at chip)) spi_on → spi.is_on (switch_word chip) ≡ on
+is_on_by chip l e =
+    begins_taken spi_on (drop switch_at chip) 4 (omega arith)
+    ∙ sym (begins_taken spi_on (drop switch_at chip) (length chip - switch_at) (omega arith))
+    ∙ sym (starts_begins spi_on (take (length chip - switch_at) (drop switch_at chip)))
+    ∙ sym e
 
 -- It is ON where the four bytes of ON stand, and nowhere else.
 pub is_on_law : (chip : List ℕ) → 4096 ≤ length chip → ((j : ℕ) → j < 4 → get_or chip (switch_at + j) 0 ≡ get_or spi_on j 0) → spi.is_on (switch_word chip) ≡ true

@@ -15,6 +15,7 @@ pub enum Switch {
 }
 
 // The switch of a chip's bytes: ON is the one word, and every other is OFF; or refusal 1.
+#[tactic(auto, unfolding(crate::specs::Switch::switch_answer, base::specs::Question::ask), using(base::proofs::Laws::gives))]
 pub fn read(chip: &[u8]) -> Result<Switch, Refusal>
     ensures { Gives switch_numbers result (switch_answer spi chip.now) }
 {

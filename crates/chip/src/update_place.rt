@@ -10,6 +10,7 @@ use kind::spi::Spi;
 
 // Where the update area of a chip's bytes begins: the U for which segment 1 begins with the warm-boot words; nothing
 // where it does not begin so for any U; or refusal 1. Only the second word can be U, so one comparison tells.
+#[tactic(auto, unfolding(crate::specs::UpdatePlace::place_answer, base::specs::Question::ask), using(base::proofs::Laws::gives))]
 pub fn read(chip: &[u8]) -> Result<Option<usize>, Refusal>
     ensures { Gives place_numbers result (place_answer spi chip.now) }
 {
