@@ -11,14 +11,15 @@ use Rattle.base.proofs.Laws.{false_true}
 use Rattle.base.specs.Question.{ask}
 use Rattle.digits.specs.Digit.{hex}
 use Rattle.mcsline.specs.Record.{LF, CR, COLON, Ending, Lf, CrLf, ending_text, line_text, Record, Data, ExtendedLinearAddress, End, pairs_of, Line, Row, record_text, AllBytes, Fit}
-use Rattle.mcsline.specs.Line.{Parsed, Is, Refuses, parsed}
+use Rattle.mcsline.specs.Line.{Parsed, parsed}
 use Rattle.mcsline.proofs.Laws.{not_lf, pairs_bytes, text_parsed, parsed_text, record_room}
 use Rattle.mcs.specs.Text.{file_text, FileFrom, FileOf}
-use Rattle.mcs.specs.Reading.{follows, prepend, lines_of, is_empty, Holds, read_lines, read_text}
+use Rattle.mcs.specs.Reading.{follows, prepend, lines_of, is_empty, Reading, read_lines, read_text}
 use Rattle.mcs.specs.Theorems.{TextLength}
 use Rattle.mcs.proofs.LinesLaws.{lines_none, lines_lf, lines_on, before_line}
 use Rattle.mcs.proofs.ReadingLaws.{read_none, read_refused, read_apart, read_data, read_upper, read_end, read_more, none_none, none_some}
 use Rattle.mcs.proofs.FillLaws.{refused_holds}
+use Rattle.std.specs.Prelude.{Ok, Err}
 
 -- A text's lines and the text.
 
@@ -86,7 +87,7 @@ pub fit_end : Fit End
 unfolding Fit
 fit_end = tt
 
-pub file_reads : (lines : List Line) (place half : ℕ) (image whole : List ℕ) → FileFrom half image lines whole → read_lines (lines_of (file_text lines)) place half image ≡ Holds whole
+pub file_reads : (lines : List Line) (place half : ℕ) (image whole : List ℕ) → FileFrom half image lines whole → read_lines (lines_of (file_text lines)) place half image ≡ Ok whole
 unfolding FileFrom
 file_reads [] place half image whole h = absurd h
 file_reads (Row (Data address bytes) e ∷ lines) place half image whole h =
@@ -103,7 +104,7 @@ file_reads (Row (ExtendedLinearAddress upper) e ∷ lines) place half image whol
 file_reads (Row End e ∷ lines) place half image whole h =
     rw (lines_file End e lines fit_end)
     (read_end (record_text (Row End e)) (lines_of (file_text lines)) place half image (text_parsed End e fit_end) (ap (λ (l : List Line). is_empty (lines_of (file_text l))) h.0 ∙ ap is_empty no_file ∙ none_none)
-    ∙ ap Holds h.1)
+    ∙ ap Ok h.1)
 
 -- A text that holds an image is that of a file of it.
 
@@ -122,13 +123,13 @@ pub written_more : (text : List ℕ) (texts : List (List ℕ)) (row : Line) (lin
 unfolding joined file_text
 written_more text texts row lines e f = ap₂ ◌++◌ e f
 
-pub reads_file : (texts : List (List ℕ)) (place half : ℕ) (image whole : List ℕ) → read_lines texts place half image ≡ Holds whole → Written half image texts whole
+pub reads_file : (texts : List (List ℕ)) (place half : ℕ) (image whole : List ℕ) → read_lines texts place half image ≡ Ok whole → Written half image texts whole
 unfolding FileFrom
 reads_file [] place half image whole e = absurd (refused_holds (sym (read_none place half image) ∙ e))
 reads_file (text ∷ texts) place half image whole e = go (parsed text) refl (λ upper longer. reads_file texts (place + length text) upper longer whole)
   where
-    rule : (b : Bool) (address : ℕ) (bytes : List ℕ) → parsed text ≡ Is (Data address bytes) → follows half address (length image) (length bytes) ≡ b →
-        ((upper : ℕ) (longer : List ℕ) → read_lines texts (place + length text) upper longer ≡ Holds whole → Written upper longer texts whole) → Written half image (text ∷ texts) whole
+    rule : (b : Bool) (address : ℕ) (bytes : List ℕ) → parsed text ≡ Ok (Data address bytes) → follows half address (length image) (length bytes) ≡ b →
+        ((upper : ℕ) (longer : List ℕ) → read_lines texts (place + length text) upper longer ≡ Ok whole → Written upper longer texts whole) → Written half image (text ∷ texts) whole
     rule true address bytes p f ih =
         let w : Written half (image ++ bytes) texts whole = ih half (image ++ bytes) (sym (read_data text texts place half image address bytes p f) ∙ e) in
         let t : (x : Ending) × ((text ≡ record_text (Row (Data address bytes) x)) × Fit (Data address bytes)) = parsed_text text (Data address bytes) p in
@@ -136,30 +137,30 @@ reads_file (text ∷ texts) place half image whole e = go (parsed text) refl (λ
         (Row (Data address bytes) t.0 ∷ w.0, (written_more text texts (Row (Data address bytes) t.0) w.0 t.1.0 w.1.0, (t.1.1, a.0, a.1, w.1.1)))
     rule false address bytes p f ih = absurd (refused_holds (sym (read_apart text texts place half image address bytes p f) ∙ e))
 
-    last : (b : Bool) → parsed text ≡ Is End → is_empty texts ≡ b → Written half image (text ∷ texts) whole
+    last : (b : Bool) → parsed text ≡ Ok End → is_empty texts ≡ b → Written half image (text ∷ texts) whole
     last true p f =
         let t : (x : Ending) × ((text ≡ record_text (Row End x)) × Fit End) = parsed_text text End p in
-        let h : Holds image ≡ Holds whole = sym (read_end text texts place half image p f) ∙ e in
+        let h : ◌≡◌ {A = Reading} (Ok image) (Ok whole) = sym (read_end text texts place half image p f) ∙ e in
         let g : image ≡ whole = cc in
         let n : joined texts ≡ file_text [] = ap joined (no_lines_left texts f) ∙ joined_none in
         (Row End t.0 ∷ [], (written_more text texts (Row End t.0) [] t.1.0 n, (refl, g)))
     last false p f = absurd (refused_holds (sym (read_more text texts place half image p f) ∙ e))
 
-    go : (p : Parsed) → parsed text ≡ p → ((upper : ℕ) (longer : List ℕ) → read_lines texts (place + length text) upper longer ≡ Holds whole → Written upper longer texts whole) → Written half image (text ∷ texts) whole
-    go (Refuses number) p ih = absurd (refused_holds (sym (read_refused text texts place half image number p) ∙ e))
-    go (Is (Data address bytes)) p ih = rule (follows half address (length image) (length bytes)) address bytes p refl ih
-    go (Is (ExtendedLinearAddress upper)) p ih =
+    go : (p : Parsed) → parsed text ≡ p → ((upper : ℕ) (longer : List ℕ) → read_lines texts (place + length text) upper longer ≡ Ok whole → Written upper longer texts whole) → Written half image (text ∷ texts) whole
+    go (Err reason) p ih = absurd (refused_holds (sym (read_refused text texts place half image reason p) ∙ e))
+    go (Ok (Data address bytes)) p ih = rule (follows half address (length image) (length bytes)) address bytes p refl ih
+    go (Ok (ExtendedLinearAddress upper)) p ih =
         let w : Written upper image texts whole = ih upper image (sym (read_upper text texts place half image upper p) ∙ e) in
         let t : (x : Ending) × ((text ≡ record_text (Row (ExtendedLinearAddress upper) x)) × Fit (ExtendedLinearAddress upper)) = parsed_text text (ExtendedLinearAddress upper) p in
         (Row (ExtendedLinearAddress upper) t.0 ∷ w.0, (written_more text texts (Row (ExtendedLinearAddress upper) t.0) w.0 t.1.0 w.1.0, (t.1.1, w.1.1)))
-    go (Is End) p ih = last (is_empty texts) p refl
+    go (Ok End) p ih = last (is_empty texts) p refl
 
 -- THE READER AND THE FORMAT: the text of a file of an image holds the image, and a text that holds an image is that of a file of it.
 
-pub file_holds : (lines : List Line) (image : List ℕ) → FileOf lines image → read_text (file_text lines) ≡ Holds image
+pub file_holds : (lines : List Line) (image : List ℕ) → FileOf lines image → read_text (file_text lines) ≡ Ok image
 file_holds lines image h = file_reads lines 0 0 [] image h
 
-pub holds_file : (text image : List ℕ) → read_text text ≡ Holds image → (lines : List Line) × ((text ≡ file_text lines) × FileOf lines image)
+pub holds_file : (text image : List ℕ) → read_text text ≡ Ok image → (lines : List Line) × ((text ≡ file_text lines) × FileOf lines image)
 holds_file text image e =
     let w : Written 0 [] (lines_of text) image = reads_file (lines_of text) 0 0 [] image e in
     (w.0, (sym (joined_lines text) ∙ w.1.0, w.1.1))

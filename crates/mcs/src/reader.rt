@@ -78,10 +78,7 @@ fn fill(digits: &Digits, text: &[u8], out: &mut [u8])
     let mut at = 0;
     let mut next = 0;
     while at < text.len() {
-        let Ok(line) = parse_sound(digits, text, at) else {
-            return;
-        };
-        match line {
+        match parse_sound(digits, text, at) {
             Line::Data {
                 address: _,
                 count,

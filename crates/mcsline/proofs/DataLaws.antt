@@ -85,19 +85,35 @@ data_at text at address bytes inside e =
     shifted : (text : List ℕ) (at count : ℕ) → ArePairs text (at + 1) (count + 5) → ArePairs text (at + 9) count
     shifted text at count h j k = let e : at + 1 + 2 * (j + 4) ≡ at + 9 + 2 * j = omega arith in rw e at (h (j + 4) (omega arith))
 
--- A data line that the code told of: its bytes, and how long it is.
-module _ (text : List ℕ) (at : ℕ) (inside : at < length text) (line : CodeLine) (is : Ok line ≡ as_line (parsed (line_at text at)) (after text at))
-    (address count end : ℕ) (e : line ≡ DataLine address count end) where
-  pub told_bytes : (bytes : List ℕ) × ((parsed (line_at text at) ≡ Ok (Data address bytes)) × (length bytes ≡ count) × (after text at ≡ end))
-  told_bytes = line_data (parsed (line_at text at)) (after text at) address count end (sym is ∙ ap Ok e)
+-- A line that the code told of, at a place within the text: its record, and where it ends.
+pub record Told (text : List ℕ) (at : ℕ) (line : CodeLine) : Type 0 where
+  pub inside : at < length text
+  pub is : Ok line ≡ as_line (parsed (line_at text at)) (after text at)
 
-  pub told_data : DataAt text at told_bytes.0
-  told_data = data_at text at address told_bytes.0 inside told_bytes.1.0
+module _ {text : List ℕ} {at : ℕ} {line : CodeLine} (told : Told text at line) where
+  module _ {address count end : ℕ} (e : line ≡ DataLine address count end) where
+    pub told_bytes : (bytes : List ℕ) × ((parsed (line_at text at) ≡ Ok (Data address bytes)) × (length bytes ≡ count) × (after text at ≡ end))
+    told_bytes = line_data (parsed (line_at text at)) (after text at) address count end (sym told.is ∙ ap Ok e)
 
-  pub told_long : (at + 2 * count + 12 ≤ end) × (end ≤ length text)
-  told_long =
-      let w : at + 2 * length told_bytes.0 + 12 ≤ at + length (line_at text at) = told_data.within in
-      let l : length told_bytes.0 ≡ count = told_bytes.1.1 in
-      let n : after text at ≡ end = told_bytes.1.2 in
-      let b : (1 ≤ length (line_at text at)) × (after text at ≤ length text) = line_long text at inside in
-      (omega arith, omega arith)
+    pub told_data : DataAt text at told_bytes.0
+    told_data = data_at text at address told_bytes.0 told.inside told_bytes.1.0
+
+    pub told_long : (at + 2 * count + 12 ≤ end) × (end ≤ length text)
+    told_long =
+        let w : at + 2 * length told_bytes.0 + 12 ≤ at + length (line_at text at) = told_data.within in
+        let l : length told_bytes.0 ≡ count = told_bytes.1.1 in
+        let n : after text at ≡ end = told_bytes.1.2 in
+        let b : (1 ≤ length (line_at text at)) × (after text at ≤ length text) = line_long text at told.inside in
+        (omega arith, omega arith)
+
+  pub told_upper : {upper end : ℕ} → line ≡ ExtendedLinearAddressLine upper end → (parsed (line_at text at) ≡ Ok (ExtendedLinearAddress upper)) × (after text at ≡ end) × (at < end) × (end ≤ length text)
+  told_upper {upper} {end} e =
+      let l : (parsed (line_at text at) ≡ Ok (ExtendedLinearAddress upper)) × (after text at ≡ end) = line_upper (parsed (line_at text at)) (after text at) upper end (sym told.is ∙ ap Ok e) in
+      let b : (1 ≤ length (line_at text at)) × (after text at ≤ length text) = line_long text at told.inside in
+      (l.0, l.1, omega arith, omega arith)
+
+  pub told_end : {end : ℕ} → line ≡ EndLine end → (parsed (line_at text at) ≡ Ok End) × (after text at ≡ end) × (at < end) × (end ≤ length text)
+  told_end {end} e =
+      let l : (parsed (line_at text at) ≡ Ok End) × (after text at ≡ end) = line_end (parsed (line_at text at)) (after text at) end (sym told.is ∙ ap Ok e) in
+      let b : (1 ≤ length (line_at text at)) × (after text at ≤ length text) = line_long text at told.inside in
+      (l.0, l.1, omega arith, omega arith)

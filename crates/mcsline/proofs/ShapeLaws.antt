@@ -11,12 +11,12 @@ use Rattle.base.specs.Question.{ask}
 use Rattle.digits.specs.Digit.{byte_sum}
 use Rattle.digits.specs.Pairs.{pair_at, ArePairs, pairs_at, Summed}
 use Rattle.digits.proofs.Laws.{length_pairs, get_or_pairs}
-use Rattle.mcsline.specs.Record.{COLON}
-use Rattle.mcsline.specs.Line.{by_spelled, line_spells, count_of, typed, parsed}
+use Rattle.mcsline.specs.Record.{COLON, Data, ExtendedLinearAddress, End}
+use Rattle.mcsline.specs.Line.{by_spelled, line_spells, count_of, Parsed, typed, parsed}
 use Rattle.mcsline.specs.Place.{ending_at, line_at, Sound, Orderly, ShapeIs, as_line}
 use Rattle.mcsline.proofs.LineLaws.{spelled_at, spells, spelled, line_spells_law, line_colon, line_long}
 use Rattle.mcsline.proofs.TypeLaws.{line_pairs, count_is}
-use Rattle.std.specs.Prelude.{Option, Some, None, Err}
+use Rattle.std.specs.Prelude.{Option, Some, None, Result, Ok, Err, IsOk}
 use Rattle.mcsline.specs.Types.{BadLine, BadSum, Shape}
 
 -- Question 11 by what a line spells.
@@ -174,12 +174,26 @@ module _ (text : List ℕ) (at : ℕ) where
   summed_line shape h s =
       sym (ap₂ as_line (sym (parsed_typed (line_at text at) (line_pairs text at shape.count) h.0.spells (orderly_count text at shape.count shape.end h.0) (rw h.1 at s))) h.0.ends)
 
--- A sound line in the code's form: its pairs end within the text, and make its record.
+-- A sound line in the code's form: its pairs end within the text, and make its record, which is none that is refused.
 module _ (text : List ℕ) (at : ℕ) (inside : at < length text) (sound : Sound (line_at text at)) where
   pub sound_long : at + 2 * pair_at text (at + 1) + 12 ≤ length text
   sound_long = let l = formed_long text at inside (sound_formed text at inside sound) in omega arith
 
+  sound_orderly : Orderly text at (pair_at text (at + 1)) (after_pairs text at + ending_at text (after_pairs text at))
+  sound_orderly = orderly text at inside (sound_formed text at inside sound)
+
+  typed_same : typed (line_pairs text at (pair_at text (at + 1))) ≡ parsed (line_at text at)
+  typed_same = sym (sound_typed text at _ _ sound_orderly sound)
+
   pub sound_line : as_line (parsed (line_at text at)) (at + length (line_at text at)) ≡ as_line (typed (line_pairs text at (pair_at text (at + 1)))) (after_pairs text at + ending_at text (after_pairs text at))
-  sound_line =
-      let o : Orderly text at (pair_at text (at + 1)) (after_pairs text at + ending_at text (after_pairs text at)) = orderly text at inside (sound_formed text at inside sound) in
-      sym (ap₂ as_line (sym (sound_typed text at _ _ o sound)) o.ends)
+  sound_line = sym (ap₂ as_line typed_same sound_orderly.ends)
+
+  pub sound_is : (end : ℕ) → IsOk (as_line (typed (line_pairs text at (pair_at text (at + 1)))) end)
+  unfolding as_line
+  sound_is end = go (typed (line_pairs text at (pair_at text (at + 1)))) typed_same
+    where
+      go : (p : Parsed) → p ≡ parsed (line_at text at) → IsOk (as_line p end)
+      go (Err reason) e = absurd (sound reason (sym e))
+      go (Ok (Data address bytes)) e = refl
+      go (Ok (ExtendedLinearAddress half)) e = refl
+      go (Ok End) e = refl

@@ -201,13 +201,20 @@ pub fn parse(digits: &Digits, text: &[u8], at: usize) -> Result<Line, Reason>
 }
 
 // The same of a line that is known to pass them: nothing is tested again.
-#[tactic(auto, using(crate::proofs::ShapeLaws::sound_long, crate::proofs::ShapeLaws::sound_line))]
-pub fn parse_sound(digits: &Digits, text: &[u8], at: usize) -> Result<Line, Reason>
+#[tactic(
+    auto,
+    using(
+        crate::proofs::ShapeLaws::sound_long,
+        crate::proofs::ShapeLaws::sound_line,
+        crate::proofs::ShapeLaws::sound_is,
+    )
+)]
+pub fn parse_sound(digits: &Digits, text: &[u8], at: usize) -> Line
     requires { (at < length text.now) × Sound (line_at text.now at) }
-    ensures { result ≡ as_line (parsed (line_at text.now at)) (at + length (line_at text.now at)) }
+    ensures { Ok result ≡ as_line (parsed (line_at text.now at)) (at + length (line_at text.now at)) }
 {
     let count = digits.pair(text, at + 1) as usize;
     let after = at + 2 * count + 11;
     let end = after + ending(text, after);
-    typed_line(digits, text, at, count, end)
+    typed_line(digits, text, at, count, end).unwrap()
 }

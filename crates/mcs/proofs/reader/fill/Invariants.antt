@@ -5,7 +5,7 @@ use Prim.Native.Nat.{◌-◌, ◌≤◌}
 use Rattle.mcs.proofs.reader.fill.Given as goal
 
 abbrev pub invariant-loop-at : goal.invariant-loop-at
-invariant-loop-at l = (l.at ≤ length l.text) × Filled l.text l.initial.out l.out l.at l.next
+invariant-loop-at l = record { within : l.at ≤ length l.text; filled : Filled l.text l.initial.out l.out l.at l.next }
 
 abbrev pub decreases-loop-at : goal.decreases-loop-at
 decreases-loop-at l = length l.text - l.at

@@ -5,7 +5,7 @@ use Prim.Native.Nat.{◌-◌, ◌≤◌}
 use Rattle.mcs.proofs.reader.size_of.Given as goal
 
 abbrev pub invariant-loop-at : goal.invariant-loop-at
-invariant-loop-at l = (l.at ≤ length l.text) × (l.next ≤ l.at) × Reached l.text l.at l.upper l.next
+invariant-loop-at l = record { within : l.at ≤ length l.text; shorter : l.next ≤ l.at; reached : Reached l.text l.at l.upper l.next }
 
 abbrev pub decreases-loop-at : goal.decreases-loop-at
 decreases-loop-at l = length l.text - l.at
