@@ -24,12 +24,12 @@ use Rattle.imagefile.proofs.FieldLaws.{whole_fits, field_fits, image_found}
 refused_bit : (place first count : ℕ) → refused ImageFault place ≡ Ok (FormBit first count) → ⊥
 refused_bit place first count e = cc
 
-plain_bit : (text : Bool) (first count : ℕ) → Ok {E = Refusal} (plain_form text) ≡ Ok (FormBit first count) → ⊥
+plain_bit : (text : Bool) (first count : ℕ) → ◌≡◌ {A = Result FileForm Refusal} (Ok (plain_form text)) (Ok (FormBit first count)) → ⊥
 unfolding plain_form
 plain_bit true first count e = cc
 plain_bit false first count e = cc
 
-same_bit : (a b c d : ℕ) → Ok {E = Refusal} (FormBit a b) ≡ Ok (FormBit c d) → (a ≡ c) × (b ≡ d)
+same_bit : (a b c d : ℕ) → ◌≡◌ {A = Result FileForm Refusal} (Ok (FormBit a b)) (Ok (FormBit c d)) → (a ≡ c) × (b ≡ d)
 same_bit a b c d e = (cc, cc)
 
 -- The image lies after the heads of its own field and of those before it, and ends within the bytes.
