@@ -2,22 +2,21 @@
 use Prim.Native.Nat.{ℕ, zero, suc, ◌+◌, ◌*◌, ◌<◌}
 use mathlib.Core.Path.{◌≡◌, refl, sym, ap, ◌∙◌}
 use mathlib.Core.Bool.{Bool, true, false}
-use mathlib.Core.Option.{Option, some, none}
 use mathlib.Core.List.{List}
 use native.Mathlib.Omega.{arith}
 use lib.Dec.{eqb}
 use lib.ListN.{length}
+use Rattle.std.specs.Prelude.{Option, Some, None, Result, Ok}
 use Rattle.base.specs.Question.{ask}
-use Rattle.kind.specs.Layout.{image_length_allowed, page, layout_answer}
-use Rattle.kind.proofs.Laws.{chip_length_range, update_length_range, on_layout, by_layout}
-use Rattle.updater.specs.Types.{LayoutAnswer, Judgement, NotAsked, Agrees, State, ReplyAnswer, Next, ReplyRefused}
+use Rattle.kind.specs.Layout.{page, ask_numbers, numbers_answer}
+use Rattle.kind.proofs.Laws.{chip_length_range, update_length_range, on_layout, by_numbers}
+use Rattle.updater.specs.Types.{BadReply, Refusal, Judgement, NotAsked, Agrees, State, Reply, Next, RefusedReply}
 use Rattle.orders.specs.Table.{by_phase, count}
 use Rattle.orders.specs.Orders.{Order, erase, program, look}
 use Rattle.updater.specs.State.{after, running, phase_consistent, fits}
 use Rattle.comparison.specs.Comparison.{differs}
-use Rattle.comparison.specs.Internal.{comparison}
 use Rattle.orders.specs.Replies.{done, read, asks_for}
-use Rattle.updater.specs.Run.{stop_of, compared, replied_to}
+use Rattle.updater.specs.Run.{stop_of, refused_reply, compared, replied_to}
 use Rattle.orders.specs.Judging.{judged_done, judged_look, judged}
 use Rattle.updater.specs.Judging.{on_judged}
 use Rattle.orders.proofs.Laws.{phases}
@@ -35,11 +34,11 @@ stop_none (suc (suc (suc (suc (suc zero))))) b e g = refl
 stop_none (suc (suc (suc (suc (suc (suc zero)))))) b e g = absurd (g refl)
 stop_none (suc (suc (suc (suc (suc (suc (suc phase))))))) b e g = refl
 
--- Question 6 goes by the answer to the layout.
-pub fits_by : (state : State) (lent : ℕ) (l : LayoutAnswer) → layout_answer state.layout ≡ l →
-    on_layout (λ number place. false) (ask (image_length_allowed state.layout.update_length state.image_length) false (ask (phase_consistent state) false (eqb state.image_length lent))) l ≡ fits state lent
-unfolding fits
-fits_by state lent l p = rw (sym p) (by_layout (λ number place. false) _ state.layout)
+-- Question 6 goes by the answer to questions 1 to 4.
+pub fits_by : (state : State) (lent : ℕ) (answer : Result (Unit {0}) Refusal) → numbers_answer state.layout state.image_length ≡ answer →
+    on_layout (λ reason place. false) (ask (phase_consistent state) false (eqb state.image_length lent)) answer ≡ fits state lent
+unfolding fits ask_numbers
+fits_by state lent answer e = by_numbers (λ reason place. false) _ state.layout state.image_length answer e
 
 -- A run's numbers are small enough to compute with: whatever the phase, as many pages as its index is stand in the update area.
 pub places_small : (state : State) (lent : ℕ) → fits state lent ≡ true → running state ≡ true → state.layout.update_place + page * state.index < 16777216
@@ -67,19 +66,19 @@ pub fits_own : (state : State) (lent : ℕ) → fits state lent ≡ true → fit
 fits_own state lent e = ap (fits state) (fits_says state lent e).same ∙ e
 
 -- A reply that was judged is answered as the specification says,
-look_judged : (d : Option ℕ) (state : State) → on_judged (judged_look (comparison d)) state ≡ compared d state
-unfolding on_judged judged_look comparison compared
-look_judged none state = refl
-look_judged (some address) state = refl
+look_judged : (d : Option ℕ) (state : State) → on_judged (judged_look d) state ≡ compared d state
+unfolding on_judged judged_look compared
+look_judged None state = refl
+look_judged (Some address) state = refl
 
-ask_judged : (b : Bool) (rest : Judgement) (state : State) (answer : ReplyAnswer) → on_judged rest state ≡ answer → on_judged (ask b NotAsked rest) state ≡ ask b (ReplyRefused 9 0 state) answer
+ask_judged : (b : Bool) (rest : Judgement) (state : State) (answer : Result Reply RefusedReply) → on_judged rest state ≡ answer → on_judged (ask b NotAsked rest) state ≡ ask b (refused_reply BadReply 0 state) answer
 unfolding ask on_judged
 ask_judged true rest state answer e = e
 ask_judged false rest state answer e = refl
 
 pub judged_replies : (order : Order) (state : State) (reply_kind : ℕ) (bytes : List ℕ) → on_judged (judged order reply_kind bytes) state ≡ replied_to order state reply_kind bytes
 unfolding judged judged_done replied_to on_judged
-judged_replies (erase place count) state reply_kind bytes = ask_judged (asks_for done 0 reply_kind (length bytes)) Agrees state (Next (after state)) refl
-judged_replies (program place contents) state reply_kind bytes = ask_judged (asks_for done 0 reply_kind (length bytes)) Agrees state (Next (after state)) refl
+judged_replies (erase place count) state reply_kind bytes = ask_judged (asks_for done 0 reply_kind (length bytes)) Agrees state (Ok (Next (after state))) refl
+judged_replies (program place contents) state reply_kind bytes = ask_judged (asks_for done 0 reply_kind (length bytes)) Agrees state (Ok (Next (after state))) refl
 judged_replies (look place expected) state reply_kind bytes =
     ask_judged (asks_for read (length expected) reply_kind (length bytes)) _ state (compared (differs place bytes expected) state) (look_judged (differs place bytes expected) state)

@@ -43,6 +43,7 @@ pub struct RefusedReply {
 }
 
 // The number of a stop in a phase.
+#[tactic(auto, unfolding(crate::specs::Run::stop_of, orders::specs::Table::by_phase), using(crate::proofs::CallLaws::stop_none))]
 fn stop_number(phase: u32) -> u32
     ensures { result ≡ stop_of phase }
 {
@@ -77,6 +78,7 @@ fn refused(reason: Reason, state: State) -> Result<Reply, RefusedReply>
 }
 
 // The answer to a reply that was judged.
+#[tactic(auto, unfolding(crate::specs::Judging::on_judged))]
 fn reply_judged(state: State, judgement: Judgement) -> Result<Reply, RefusedReply>
     requires { (fits state state.image_length ≡ true) × (running state ≡ true) }
     ensures { result ≡ on_judged judgement state }
@@ -104,6 +106,7 @@ impl State {
     pub const READ: u32 = judging::READ;
 
     // The outcome of a run that has ended, none of one that goes on; or refusal 7.
+    #[tactic(auto, unfolding(crate::specs::Run::finished_answer, crate::specs::Run::finished_case, base::specs::Question::ask), using(base::proofs::Laws::gives))]
     pub fn finished(self) -> Result<Option<u32>, Refusal>
         ensures { Gives finished_numbers result (finished_answer self) }
     {
@@ -115,6 +118,7 @@ impl State {
     }
 
     // Questions 6 and 7: whether the state fits an image of `lent` bytes, and the run goes on.
+    #[tactic(auto, unfolding(crate::specs::Judging::running_asked, base::specs::Question::ask))]
     fn ask_running(self, lent: usize) -> Result<(), Refusal>
         ensures { result ≡ running_asked self lent }
     {

@@ -23,6 +23,7 @@ pub struct State {
     pub outcome: u32,
 }
 
+#[tactic(auto, unfolding(crate::specs::State::outcome_allowed, base::specs::Question::ask))]
 fn outcome_allowed(outcome: u32) -> bool
     ensures { result ≡ outcome_allowed outcome }
 {
@@ -33,6 +34,7 @@ fn outcome_allowed(outcome: u32) -> bool
 }
 
 // Whether phase, index and outcome go together.
+#[tactic(auto, unfolding(crate::specs::State::phase_consistent, base::specs::Question::ask))]
 fn phase_consistent(state: State) -> bool
     ensures { result ≡ phase_consistent state }
 {
@@ -43,6 +45,7 @@ fn phase_consistent(state: State) -> bool
 }
 
 // Question 6, for an image of `lent` bytes.
+#[tactic(auto, unfolding(kind::proofs::Laws::on_layout, base::specs::Question::ask), using(crate::proofs::CallLaws::fits_by))]
 pub(crate) fn fits_image(state: State, lent: usize) -> bool
     ensures { result ≡ fits state lent }
 {
