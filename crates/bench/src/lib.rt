@@ -21,7 +21,7 @@ use flash::overwrite;
 use kind::spi::Spi;
 use orders::Operation;
 use starts::start;
-use updater::state::{State, current_operation};
+use updater::state::{Running, State};
 
 // Whether each bit of the new bytes is 1 or that of the others.
 fn mixes_with_erased(others: &[u8], new: &[u8]) -> bool
@@ -59,8 +59,7 @@ fn damage_allowed(chip: &[u8], state: State, image: &[u8], damage: &[u8]) -> boo
         return true;
     }
     let on = Spi::ON;
-    let operation = current_operation(state);
-    match operation {
+    match (Running { state }).operation() {
         Operation::Erase { place, length } => span_allowed(
             place,
             length,
@@ -83,8 +82,7 @@ fn write_damage(chip: &mut [u8], state: State, image: &[u8], damage: &[u8])
     if state.phase >= 7 {
         return;
     }
-    let operation = current_operation(state);
-    match operation {
+    match (Running { state }).operation() {
         Operation::Erase { place, length } | Operation::Program { place, length } => {
             let _ = overwrite(chip, place, &damage[..length]);
         }

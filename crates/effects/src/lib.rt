@@ -5,13 +5,13 @@
 ghost use Rattle.std.specs.Prelude.{min, ◌≡◌, true, length};
 ghost use Rattle.kind.specs.Spi.{spi};
 ghost use Rattle.orders.specs.Table.{total};
-ghost use Rattle.updater.specs.State.{first, running, fits, current_order};
+ghost use Rattle.updater.specs.State.{first, fits, current_order};
 ghost use Rattle.effects.specs.Effects.{obeyed};
 ghost use Rattle.effects.specs.Progress.{chip_after, state_after};
 
 use flash::{erase, program};
 use orders::Operation;
-use updater::state::{State, after_order, current_bytes, current_operation};
+use updater::state::{Running, State};
 
 // The state after `cut` orders, or at the run's end.
 pub fn state_after(begun: State, cut: usize) -> State
@@ -23,23 +23,22 @@ pub fn state_after(begun: State, cut: usize) -> State
         if state.phase >= 7 {
             return state;
         }
-        state = after_order(state);
+        state = Running { state }.after_order();
     }
     state
 }
 
 // The chip obeys the current order. Every order's span lies within the chip, so none is refused.
-fn obey_order(chip: &mut [u8], state: State, image: &[u8])
-    requires { (fits state (length image.now) ≡ true) × (running state ≡ true) × (state.layout.chip_length ≡ length chip.old) }
-    ensures { chip.new ≡ obeyed (current_order spi state image.now) chip.old }
+fn obey_order(chip: &mut [u8], run: Running, image: &[u8])
+    requires { (run.state.image_length ≡ length image.now) × (run.state.layout.chip_length ≡ length chip.old) }
+    ensures { chip.new ≡ obeyed (current_order spi run.state image.now) chip.old }
 {
-    let operation = current_operation(state);
-    match operation {
+    match run.operation() {
         Operation::Erase { place, length } => {
             let _ = erase(chip, place, length);
         }
         Operation::Program { place, length } => {
-            let bytes = current_bytes(state, image);
+            let bytes = run.bytes(image);
             let _ = program(chip, place, &bytes[..length]);
         }
         Operation::Look {
@@ -59,7 +58,8 @@ pub fn obey_orders(chip: &mut [u8], begun: State, image: &[u8], cut: usize)
         if state.phase >= 7 {
             return;
         }
-        obey_order(chip, state, image);
-        state = after_order(state);
+        let run = Running { state };
+        obey_order(chip, run, image);
+        state = run.after_order();
     }
 }

@@ -1,17 +1,16 @@
 // The start of a run, how many orders it has, and the number of an order among them.
 #![tactic(auto)]
 
-ghost use Rattle.std.specs.Prelude.{◌≡◌, true};
+ghost use Rattle.std.specs.Prelude.{◌≡◌};
 ghost use Rattle.base.specs.Answer.{Gives};
 ghost use Rattle.kind.specs.Spi.{spi};
-ghost use Rattle.updater.specs.State.{running, fits};
 ghost use Rattle.starts.specs.Starts.{start_numbers, start_answer, total_numbers, total_answer, progress_of, progress_numbers, progress_answer};
 
 use base::refusal::{Reason, Refusal, ask};
 use bootreader::image::check_within;
 use kind::layout::Layout;
 use orders::orders_before;
-use updater::state::State;
+use updater::state::{Running, State};
 
 // The number of a state's order in its run, counted from 1, and how many orders the run has.
 #[derive(Clone, Copy)]
@@ -44,10 +43,10 @@ pub fn total(layout: Layout, image_length: usize) -> Result<usize, Refusal>
 }
 
 // The number of the order that a state asks for, and how many there are.
-fn progress_running(state: State) -> RunProgress
-    requires { (fits state state.image_length ≡ true) × (running state ≡ true) }
-    ensures { result ≡ progress_of state }
+fn progress_running(run: Running) -> RunProgress
+    ensures { result ≡ progress_of run.state }
 {
+    let state = run.state;
     let before = orders_before(state.layout, state.image_length, state.phase);
     RunProgress {
         order: before + state.index + 1,
@@ -62,5 +61,5 @@ pub fn progress(state: State) -> Result<RunProgress, Refusal>
 {
     let outcome = state.finished()?;
     ask(outcome.is_none(), Reason::RunEnded)?;
-    Ok(progress_running(state))
+    Ok(progress_running(Running { state }))
 }

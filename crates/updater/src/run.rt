@@ -1,14 +1,14 @@
 // The calls on a run: its order, the reply that moves it on, whether it has ended. Run, order, reply and stop are document
 // 01's terms. The run asks for an order (crate `orders`), the host carries it out and replies; a stop is a look that read
 // something else than expected.
-ghost use Rattle.std.specs.Prelude.{◌≡◌, true, length};
+ghost use Rattle.std.specs.Prelude.{◌≡◌, length};
 ghost use Rattle.base.specs.Answer.{Gives};
 ghost use Rattle.kind.specs.Spi.{spi};
-ghost use Rattle.updater.specs.State.{ended, fits, running};
-ghost use Rattle.updater.specs.Judging.{running_asked, on_judged};
+ghost use Rattle.updater.specs.State.{ended};
+ghost use Rattle.updater.specs.Judging.{running_asked, state_of, on_judged};
 ghost use Rattle.updater.specs.Run.{finished_numbers, finished_answer, order_numbers, order_answer, reply_numbers, refused_reply, stop_of, reply_answer};
 
-use crate::state::{State, after_order, current_bytes, current_operation, fits_image};
+use crate::state::{Running, State, fits_image};
 use base::refusal::{Reason, Refusal, ask};
 use orders::judging::{Judgement, judge};
 use orders::{Operation, judging};
@@ -77,24 +77,25 @@ fn refused(reason: Reason, state: State) -> Result<Reply, RefusedReply>
     })
 }
 
-// The answer to a reply that was judged.
-#[tactic(auto, unfolding(crate::specs::Judging::on_judged))]
-fn reply_judged(state: State, judgement: Judgement) -> Result<Reply, RefusedReply>
-    requires { (fits state state.image_length ≡ true) × (running state ≡ true) }
-    ensures { result ≡ on_judged judgement state }
-{
-    match judgement {
-        Judgement::NotAsked => refused(Reason::BadReply, state),
-        Judgement::Agrees => Ok(Reply::Next {
-            state: after_order(state),
-        }),
-        Judgement::Differs { address } => {
-            let number = stop_number(state.phase);
-            Ok(Reply::Stopped {
-                number,
-                place: address,
-                state: stopped(state, number),
-            })
+impl Running {
+    // The answer to a reply that was judged.
+    #[tactic(auto, unfolding(crate::specs::Judging::on_judged))]
+    fn reply_judged(self, judgement: Judgement) -> Result<Reply, RefusedReply>
+        ensures { result ≡ on_judged judgement self.state }
+    {
+        match judgement {
+            Judgement::NotAsked => refused(Reason::BadReply, self.state),
+            Judgement::Agrees => Ok(Reply::Next {
+                state: self.after_order(),
+            }),
+            Judgement::Differs { address } => {
+                let number = stop_number(self.state.phase);
+                Ok(Reply::Stopped {
+                    number,
+                    place: address,
+                    state: stopped(self.state, number),
+                })
+            }
         }
     }
 }
@@ -117,28 +118,29 @@ impl State {
         Ok(Some(self.outcome))
     }
 
-    // Questions 6 and 7: whether the state fits an image of `lent` bytes, and the run goes on.
-    #[tactic(auto, unfolding(crate::specs::Judging::running_asked, base::specs::Question::ask))]
-    fn ask_running(self, lent: usize) -> Result<(), Refusal>
-        ensures { result ≡ running_asked self lent }
+    // Questions 6 and 7, for an image of `lent` bytes.
+    #[tactic(auto, unfolding(crate::specs::Judging::running_asked, crate::specs::Judging::state_of, base::specs::Question::ask))]
+    fn ask_running(self, lent: usize) -> Result<Running, Refusal>
+        ensures { state_of result ≡ running_asked self lent }
     {
         ask(fits_image(self, lent), Reason::BadState)?;
-        ask(self.phase < 7, Reason::RunEnded)
+        ask(self.phase < 7, Reason::RunEnded)?;
+        Ok(Running { state: self })
     }
 
     // The order that the state asks for, with the bytes of a program; or refusal 7 or 8. The image is the run's.
     pub fn order(self, image: &[u8]) -> OrderAnswer
         ensures { Gives order_numbers result (order_answer spi self image.now) }
     {
-        if let Err(refusal) = self.ask_running(image.len()) {
-            return OrderAnswer {
+        match self.ask_running(image.len()) {
+            Ok(run) => OrderAnswer {
+                result: Ok(run.operation()),
+                bytes: run.bytes(image),
+            },
+            Err(refusal) => OrderAnswer {
                 result: Err(refusal),
                 bytes: [0xFF; 256],
-            };
-        }
-        OrderAnswer {
-            result: Ok(current_operation(self)),
-            bytes: current_bytes(self, image),
+            },
         }
     }
 
@@ -153,12 +155,12 @@ impl State {
     ) -> Result<Reply, RefusedReply>
         ensures { Gives reply_numbers result (reply_answer spi self image.now reply_kind bytes.now) }
     {
-        if let Err(refusal) = self.ask_running(image.len()) {
-            return Err(RefusedReply {
+        let run = self
+            .ask_running(image.len())
+            .map_err(|refusal| RefusedReply {
                 refusal,
                 state: self,
-            });
-        }
+            })?;
         let judgement = judge(
             self.layout,
             image,
@@ -167,6 +169,6 @@ impl State {
             reply_kind,
             bytes,
         );
-        reply_judged(self, judgement)
+        run.reply_judged(judgement)
     }
 }

@@ -1,6 +1,5 @@
 // A run's state: where the run is, whether a state fits an image, its current order, and the state after that. State,
-// order and run are document 01's terms. The functions here are for this crate and the bench alone: they ask their
-// caller for a state that fits, of a run that goes on.
+// order and run are document 01's terms. `Running` is for this crate and the bench alone.
 ghost use Rattle.std.specs.Prelude.{ℕ, ◌≡◌, true, List, length};
 ghost use Rattle.kind.specs.Spi.{spi};
 ghost use Rattle.orders.specs.Orders.{operation_of, order_bytes};
@@ -52,36 +51,46 @@ pub(crate) fn fits_image(state: State, lent: usize) -> bool
     state.layout.check_with_image(state.image_length).is_ok() && phase_consistent(state) && state.image_length == lent
 }
 
-// The current order, as far as it can be said without the image.
-pub fn current_operation(state: State) -> Operation
-    requires { (fits state state.image_length ≡ true) × (running state ≡ true) }
-    ensures { (image : List ℕ) → state.image_length ≡ length image → result ≡ operation_of (current_order spi state image) }
-{
-    operation_at(state.layout, state.image_length, state.phase, state.index)
+// A state that fits, of a run that goes on: questions 6 and 7 with a yes.
+#[derive(Clone, Copy)]
+pub struct Running {
+    pub state: State,
+    pub ghost fitting: { fits state state.image_length ≡ true },
+    pub ghost going: { running state ≡ true },
 }
 
-// The bytes that the current order programs, then FF.
-pub fn current_bytes(state: State, image: &[u8]) -> [u8; 256]
-    requires { (fits state (length image.now) ≡ true) × (running state ≡ true) }
-    ensures { result ≡ order_bytes (current_order spi state image.now) }
-{
-    bytes_at(image, state.phase, state.index)
-}
-
-// The state after the current order.
-pub fn after_order(state: State) -> State
-    requires { (fits state state.image_length ≡ true) × (running state ≡ true) }
-    ensures { result ≡ after state }
-{
-    if state.index + 1 < orders_in(state.layout, state.image_length, state.phase) {
-        return State {
-            index: state.index + 1,
-            ..state
-        };
+impl Running {
+    // The current order, as far as it can be said without the image.
+    pub fn operation(self) -> Operation
+        ensures { (image : List ℕ) → self.state.image_length ≡ length image → result ≡ operation_of (current_order spi self.state image) }
+    {
+        let state = self.state;
+        operation_at(state.layout, state.image_length, state.phase, state.index)
     }
-    State {
-        phase: state.phase + 1,
-        index: 0,
-        ..state
+
+    // The bytes that the current order programs, then FF. The image is the run's.
+    pub fn bytes(self, image: &[u8]) -> [u8; 256]
+        requires { self.state.image_length ≡ length image.now }
+        ensures { result ≡ order_bytes (current_order spi self.state image.now) }
+    {
+        bytes_at(image, self.state.phase, self.state.index)
+    }
+
+    // The state after the current order.
+    pub fn after_order(self) -> State
+        ensures { result ≡ after self.state }
+    {
+        let state = self.state;
+        if state.index + 1 < orders_in(state.layout, state.image_length, state.phase) {
+            return State {
+                index: state.index + 1,
+                ..state
+            };
+        }
+        State {
+            phase: state.phase + 1,
+            index: 0,
+            ..state
+        }
     }
 }
