@@ -18,7 +18,7 @@ pub struct TealsettlePlace {
 impl From<Result<Option<usize>, Refusal>> for TealsettlePlace {
     ghost from_gives = { λ answer given. given ≡ place_result answer };
 
-    #[tactic(auto, unfolding(crate::specs::Place::place_result, base::specs::Answer::in_numbers))]
+    #[tactic(auto, unfolding(crate::specs::Place::place_result, chip::specs::UpdatePlace::place_values, base::specs::Answer::in_numbers))]
     fn from(answer: Result<Option<usize>, Refusal>) -> TealsettlePlace {
         match answer {
             Ok(Some(update)) => TealsettlePlace {

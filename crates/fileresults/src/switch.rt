@@ -18,7 +18,7 @@ pub struct TealsettleSwitch {
 impl From<Result<Switch, Refusal>> for TealsettleSwitch {
     ghost from_gives = { λ answer given. given ≡ switch_result answer };
 
-    #[tactic(auto, unfolding(crate::specs::Switch::switch_result, base::specs::Answer::in_numbers))]
+    #[tactic(auto, unfolding(crate::specs::Switch::switch_result, chip::specs::Switch::switch_values, base::specs::Answer::in_numbers))]
     fn from(answer: Result<Switch, Refusal>) -> TealsettleSwitch {
         match answer {
             Ok(Switch::On) => TealsettleSwitch {
