@@ -5,6 +5,7 @@ use mathlib.Core.Bool.{true, ◌&&◌}
 use mathlib.Core.List.{List, [], ◌∷◌}
 use lib.Dec.{leb}
 use lib.ListN.{get_or}
+use Rattle.std.proofs.Common.{Ok}
 use Rattle.base.specs.Question.{ask}
 use Rattle.base.proofs.Laws.{both_true}
 use Rattle.framing.specs.Search.{begins_with}
@@ -48,10 +49,10 @@ file_text_law [] = refl
 file_text_law (line ∷ lines) = text_parts (record_text line) (file_text lines) ∙ ap₂ ◌&&◌ (line_text_law line) (file_text_law lines)
 
 -- A file has a line, and a line begins with a colon.
-file_told : (lines : List Line) (image : List ℕ) → FileOf lines image → form_answer (file_text lines) ≡ FormText
+file_told : (lines : List Line) (image : List ℕ) → FileOf lines image → form_answer (file_text lines) ≡ Ok FormText
 unfolding FileFrom file_text record_text line_text form_answer begins_with plain_form ask
 file_told [] image file = absurd file
-file_told (Row r ending ∷ lines) image file = ap plain_form (file_text_law (Row r ending ∷ lines))
+file_told (Row r ending ∷ lines) image file = ap (λ t. Ok (plain_form t)) (file_text_law (Row r ending ∷ lines))
 
 pub text_told : TextTold
 text_told text image holds =
