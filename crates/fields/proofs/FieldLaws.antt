@@ -11,7 +11,7 @@ use lib.ListN.{length, get_or, set, length-append}
 use lib.Seq.{paste}
 use Rattle.fields.specs.Fields.{decimal_in, decimal}
 use Rattle.digits.specs.Digit.{digits, hexadecimal}
-use Rattle.fields.proofs.PutLaws.{paste_one, put_behind, Put, put_byte}
+use Rattle.fields.proofs.PutLaws.{put_behind}
 
 -- A field of so many digits is so long.
 pub length_hexadecimal : (count n : ℕ) → length (hexadecimal count n) ≡ count
@@ -85,17 +85,3 @@ digit_behind d characters at count n same some room =
     ap (λ (l : List ℕ). paste (set d (at + (count - 1)) (get_or l (n % 16) 0)) at (hexadecimal (count - 1) (n / 16)) (count - 1)) same
     ∙ put_behind d at (hexadecimal (count - 1) (n / 16)) (count - 1) (get_or digits (n % 16) 0) (length_hexadecimal (count - 1) (n / 16)) (omega arith)
     ∙ ap₂ (λ (s : List ℕ) (k : ℕ). paste d at s k) (sym (hexadecimal_step count n some)) one
-
--- A decimal digit is stored alone.
-pub put_only : (d : List ℕ) (at n : ℕ) → n < 10 → at + length (decimal n) ≤ length d → set d at (48 + n) ≡ paste d at (decimal n) (length (decimal n))
-put_only d at n h room =
-    paste_one d at (48 + n) (omega (arith, length_small n h)) ∙ ap₂ (λ (s : List ℕ) (k : ℕ). paste d at s k) (sym (decimal_small n h)) (sym (length_small n h))
-
--- The last decimal digit is stored after the others.
-pub put_last : (d mid : List ℕ) (at next n : ℕ) → 10 ≤ n → at + length (decimal n) ≤ length d → mid ≡ paste d at (decimal (n / 10)) (length (decimal (n / 10))) →
-    next ≡ at + length (decimal (n / 10)) → set mid next (48 + n % 10) ≡ paste d at (decimal n) (length (decimal n))
-put_last d mid at next n l room e here =
-    let more : length (decimal n) ≡ length (decimal (n / 10)) + 1 = length_step n l in
-    let p : Put d at (decimal (n / 10)) (length (decimal (n / 10))) mid = record { long = refl; room = omega arith; is = e } in
-    ap (λ (k : ℕ). set mid k (48 + n % 10)) here ∙ (put_byte p (48 + n % 10) (omega arith)).is
-    ∙ ap₂ (λ (s : List ℕ) (k : ℕ). paste d at s k) (sym (decimal_step n l)) (sym more)

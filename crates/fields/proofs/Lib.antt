@@ -1,3 +1,4 @@
 pub mod PutLaws
 pub mod FieldLaws
+pub mod PageLaws
 pub mod Laws

@@ -1,2 +1,3 @@
--- What the contracts of this crate say: text and numbers, byte for byte.
+-- What the contracts of this crate say: text and numbers, byte for byte, and a buffer that they were put into.
 pub mod Fields
+pub mod Page

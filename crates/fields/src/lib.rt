@@ -1,45 +1,68 @@
-// Text and numbers, written into a buffer from a place on. A field is a number and the byte after it. For the
-// crates above it alone: its functions ask their caller for a buffer with room for what they write.
+// Text and numbers, written into a buffer one after the other. For the crates above it alone: its functions ask their caller
+// for a buffer with room for what they write.
 #![tactic(auto)]
 
 ghost use Rattle.std.specs.Prelude.{◌≡◌, ◌+◌, ◌<◌, ◌≤◌, [], ◌∷◌, ◌++◌, length};
-ghost use Rattle.std.proofs.Math.Seq.{paste};
 ghost use Rattle.fields.specs.Fields.{decimal};
+ghost use Rattle.fields.specs.Page.{Wrote};
 ghost use Rattle.digits.specs.Digit.{hexadecimal};
 
 use digits::digit::characters;
 
-// Copies a text to `at`.
-#[tactic(auto, using(crate::proofs::PutLaws::paste_front))]
-pub fn put(out: &mut [u8], at: usize, text: &[u8])
-    requires { at + length text.now ≤ length out.old }
-    ensures { out.new ≡ paste out.old at text.now (length text.now) }
-{
-    base::copy(text, &mut out[at..]);
+// A buffer, and the place in it where the next text goes.
+#[derive(Drop)]
+pub struct Page<'a> {
+    pub out: &'a mut [u8],
+    pub at: usize,
 }
 
-// So many hexadecimal digits of a number, at `at`, from the last to the first.
-#[tactic(auto, using(crate::proofs::FieldLaws::digit_behind))]
-fn put_hexadecimal(out: &mut [u8], at: usize, count: usize, value: usize)
-    requires { at + count ≤ length out.old }
-    ensures { out.new ≡ paste out.old at (hexadecimal count value) count }
-{
-    let characters = characters();
-    let mut rest = value;
-    for i in (0..count).rev() {
-        out[at + i] = characters[rest % 16];
-        rest /= 16;
+impl<'a> Page<'a> {
+    // A buffer with nothing written yet.
+    pub fn new(out: &'a mut [u8]) -> Page<'a>
+        ensures same { result.out.ghost_name ≡ out.entry.ghost_name }
+        ensures front { result.at ≡ 0 }
+        ensures buffer { result.out.now ≡ out.old }
+    {
+        Page { out, at: 0 }
     }
-}
 
-// So many hexadecimal digits of a number, at `at`, and the byte after them.
-#[tactic(auto, using(crate::proofs::PutLaws::paste_byte, crate::proofs::FieldLaws::length_hexadecimal))]
-pub fn put_hexadecimal_field(out: &mut [u8], at: usize, count: usize, value: usize, after: u8)
-    requires { at + (count + 1) ≤ length out.old }
-    ensures { out.new ≡ paste out.old at (hexadecimal count value ++ after ∷ []) (count + 1) }
-{
-    put_hexadecimal(out, at, count, value);
-    out[at + count] = after;
+    // Copies a text.
+    pub fn put(&mut self, text: &[u8])
+        requires { self.old.at + length text.now ≤ length self.old.out.now }
+        ensures same { self.new.out.ghost_name ≡ self.old.out.ghost_name }
+        ensures wrote { Wrote self.old self.new text.now }
+    {
+        base::copy(text, &mut self.out[self.at..]);
+        self.at += text.len();
+    }
+
+    // So many hexadecimal digits of a number, from the last to the first.
+    pub fn put_hexadecimal(&mut self, count: usize, value: usize)
+        requires { self.old.at + count ≤ length self.old.out.now }
+        ensures same { self.new.out.ghost_name ≡ self.old.out.ghost_name }
+        ensures wrote { Wrote self.old self.new (hexadecimal count value) }
+    {
+        let characters = characters();
+        let mut rest = value;
+        for i in (0..count).rev() {
+            self.out[self.at + i] = characters[rest % 16];
+            rest /= 16;
+        }
+        self.at += count;
+    }
+
+    // A number in decimal: the digits before the last, and the last. How many there are is not known before: so the function
+    // calls itself, 20 calls deep at most.
+    pub fn put_decimal(&mut self, value: usize)
+        requires { self.old.at + length (decimal value) ≤ length self.old.out.now }
+        ensures same { self.new.out.ghost_name ≡ self.old.out.ghost_name }
+        ensures wrote { Wrote self.old self.new (decimal value) }
+    {
+        if value >= 10 {
+            self.put_decimal(value / 10);
+        }
+        self.put(&[(48 + value % 10) as u8]);
+    }
 }
 
 // How many digits a number has in decimal.
@@ -52,33 +75,4 @@ pub fn decimal_length(value: usize) -> usize
         return 1;
     }
     decimal_length(value / 10) + 1
-}
-
-// A number in decimal, at `at`; the place after it. A number's digits come from its last to its first, and how many there
-// are is not known before: so the function calls itself for those before the last, 20 calls deep at most.
-#[tactic(auto, using(crate::proofs::FieldLaws::length_small, crate::proofs::FieldLaws::length_step, crate::proofs::FieldLaws::put_only, crate::proofs::FieldLaws::put_last))]
-fn put_decimal(out: &mut [u8], at: usize, value: usize) -> usize
-    requires { at + length (decimal value) ≤ length out.old }
-    ensures value { result ≡ at + length (decimal value) }
-    ensures out_after { out.new ≡ paste out.old at (decimal value) (length (decimal value)) }
-{
-    if value < 10 {
-        out[at] = (48 + value) as u8;
-        return at + 1;
-    }
-    let last = put_decimal(out, at, value / 10);
-    out[last] = (48 + value % 10) as u8;
-    last + 1
-}
-
-// A number in decimal, at `at`, and the byte after it; the place after both.
-#[tactic(auto, using(crate::proofs::PutLaws::paste_byte))]
-pub fn put_decimal_field(out: &mut [u8], at: usize, value: usize, after: u8) -> usize
-    requires { at + (length (decimal value) + 1) ≤ length out.old }
-    ensures value { result ≡ at + (length (decimal value) + 1) }
-    ensures out_after { out.new ≡ paste out.old at (decimal value ++ after ∷ []) (length (decimal value) + 1) }
-{
-    let next = put_decimal(out, at, value);
-    out[next] = after;
-    next + 1
 }

@@ -1,14 +1,14 @@
 // The report of a chip that loads: its first line, a line for each write, its last line. For the crate above
-// it alone: it asks its caller for a buffer with room for all of it.
+// it alone: it asks its caller for a page with room for all of it.
 #![tactic(auto)]
 
 ghost use Rattle.std.specs.Prelude.{◌≡◌, ◌++◌, ◌+◌, ◌*◌, ◌≤◌, leb, length};
-ghost use Rattle.std.proofs.Math.Seq.{paste};
+ghost use Rattle.fields.specs.Page.{Wrote};
 ghost use Rattle.writes.specs.Cursor.{remaining_writes};
 ghost use Rattle.fields.specs.Fields.{decimal};
 ghost use Rattle.reportlines.specs.Reportlines.{loaded_line, write_lines, end_line};
 
-use fields::{decimal_length, put, put_decimal_field, put_hexadecimal_field};
+use fields::{Page, decimal_length};
 use reportlines::{WRITE, put_write};
 use writes::cursor::Cursor;
 use writes::next::{next_of, step_at};
@@ -29,59 +29,51 @@ pub fn has_room(writes: usize, room: usize) -> bool
 }
 
 // What loads: golden, or after a jump the update.
-fn put_loaded(out: &mut [u8], at: usize, jumped: bool)
-    requires { at + 14 ≤ length out.old }
-    ensures { out.new ≡ paste out.old at (loaded_line jumped) 14 }
+fn put_loaded(page: &mut Page<'_>, jumped: bool)
+    requires { page.old.at + 14 ≤ length page.old.out.now }
+    ensures same { page.new.out.ghost_name ≡ page.old.out.ghost_name }
+    ensures wrote { Wrote page.old page.new (loaded_line jumped) }
 {
     if jumped {
-        put(out, at, b"LOADED update\n");
-        return;
+        page.put(b"LOADED update\n");
+    } else {
+        page.put(b"LOADED golden\n");
     }
-    put(out, at, b"LOADED golden\n");
 }
 
-// The lines of all writes that a cursor has to give, in one pass; the place after them.
-fn put_writes(chip: &[u8], cursor: Cursor, out: &mut [u8], at: usize) -> usize
-    requires { at + 27 * length (remaining_writes chip.now cursor) ≤ length out.old }
-    ensures value { result ≡ at + 27 * length (remaining_writes chip.now cursor) }
-    ensures out_after { out.new ≡ paste out.old at (write_lines (remaining_writes chip.now cursor)) (27 * length (remaining_writes chip.now cursor)) }
+// The lines of all writes that a cursor has to give, in one pass.
+fn put_writes(page: &mut Page<'_>, chip: &[u8], cursor: Cursor)
+    requires { page.old.at + 27 * length (remaining_writes chip.now cursor) ≤ length page.old.out.now }
+    ensures same { page.new.out.ghost_name ≡ page.old.out.ghost_name }
+    ensures wrote { Wrote page.old page.new (write_lines (remaining_writes chip.now cursor)) }
 {
-    let mut next = at;
     let mut here = cursor;
     while let Some(step) = step_at(chip, next_of(chip, here), here.remaining) {
-        put_write(out, next, step.write);
-        next += WRITE;
+        put_write(page, step.write);
         here = step.cursor;
     }
-    next
 }
 
-// The place after the last word, and the number of writes; the place after the line.
-fn put_end(out: &mut [u8], at: usize, end: usize, writes: usize) -> usize
-    requires { at + length (end_line end writes) ≤ length out.old }
-    ensures value { result ≡ at + length (end_line end writes) }
-    ensures out_after { out.new ≡ paste out.old at (end_line end writes) (length (end_line end writes)) }
+// The place after the last word, and the number of writes.
+fn put_end(page: &mut Page<'_>, end: usize, writes: usize)
+    requires { page.old.at + length (end_line end writes) ≤ length page.old.out.now }
+    ensures same { page.new.out.ghost_name ≡ page.old.out.ghost_name }
+    ensures wrote { Wrote page.old page.new (end_line end writes) }
 {
-    put(out, at, b"END ");
-    put_hexadecimal_field(out, at + 4, 8, end, b' ');
-    put(out, at + 13, b"writes ");
-    put_decimal_field(out, at + 20, writes, b'\n')
+    page.put(b"END ");
+    page.put_hexadecimal(8, end);
+    page.put(b" writes ");
+    page.put_decimal(writes);
+    page.put(b"\n");
 }
 
-// All of it, from the front of the buffer on; its length.
-pub fn put_report(
-    chip: &[u8],
-    cursor: Cursor,
-    out: &mut [u8],
-    jumped: bool,
-    end: usize,
-    writes: usize,
-) -> usize
-    requires { 14 + 27 * length (remaining_writes chip.now cursor) + length (end_line end writes) ≤ length out.old }
-    ensures value { result ≡ 14 + 27 * length (remaining_writes chip.now cursor) + length (end_line end writes) }
-    ensures out_after { out.new ≡ paste out.old 0 (loaded_line jumped ++ write_lines (remaining_writes chip.now cursor) ++ end_line end writes) (14 + 27 * length (remaining_writes chip.now cursor) + length (end_line end writes)) }
+// All of it.
+pub fn put_report(page: &mut Page<'_>, chip: &[u8], cursor: Cursor, jumped: bool, end: usize, writes: usize)
+    requires { page.old.at + (14 + 27 * length (remaining_writes chip.now cursor) + length (end_line end writes)) ≤ length page.old.out.now }
+    ensures same { page.new.out.ghost_name ≡ page.old.out.ghost_name }
+    ensures wrote { Wrote page.old page.new (loaded_line jumped ++ write_lines (remaining_writes chip.now cursor) ++ end_line end writes) }
 {
-    put_loaded(out, 0, jumped);
-    let after = put_writes(chip, cursor, out, LOADED);
-    put_end(out, after, end, writes)
+    put_loaded(page, jumped);
+    put_writes(page, chip, cursor);
+    put_end(page, end, writes);
 }

@@ -12,6 +12,7 @@ ghost use Rattle.report.specs.Boot.{chip_answer, chip_output};
 use base::refusal::{Reason, Refusal, ask};
 use bootreader::boot;
 use bootreader::boot::Boot;
+use fields::Page;
 use loadlines::{has_room, put_report};
 use reportlines::{STUCK, put_stuck};
 use writes::cursor::Cursor;
@@ -31,7 +32,9 @@ fn report_loaded(
 {
     ask(has_room(writes, out.len()), Reason::NoRoom)?;
     let cursor = Cursor::new(sync + 4, writes);
-    Ok(put_report(chip, cursor, out, jumped, end, writes))
+    let mut page = Page::new(out);
+    put_report(&mut page, chip, cursor, jumped, end, writes);
+    Ok(page.at)
 }
 
 // The report of a chip that is stuck.
@@ -40,8 +43,9 @@ fn report_stuck(place: usize, out: &mut [u8]) -> Result<usize, Refusal>
     ensures out_after { out.new ≡ front_filled (stuck_line place) out.old }
 {
     ask(STUCK <= out.len(), Reason::NoRoom)?;
-    put_stuck(out, 0, place);
-    Ok(STUCK)
+    let mut page = Page::new(out);
+    put_stuck(&mut page, place);
+    Ok(page.at)
 }
 
 // The report of a chip's bytes at the front of a buffer: how long it is; or refusal 1 or 19, and the buffer as it was.

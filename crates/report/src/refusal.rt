@@ -4,6 +4,7 @@ ghost use Rattle.base.specs.Answer.{Gives};
 ghost use Rattle.report.specs.Refusal.{report_numbers, refusal_answer, refusal_output};
 
 use base::refusal::{Reason, Refusal, ask};
+use fields::Page;
 use reportlines::{put_refused, refused_length};
 
 // The line `REFUSED`, number, place at the front of a buffer: how long it is; or refusal 19, and the buffer as it was.
@@ -13,6 +14,7 @@ pub fn report(number: u32, place: usize, out: &mut [u8]) -> Result<usize, Refusa
 {
     let length = refused_length(number, place);
     ask(length <= out.len(), Reason::NoRoom)?;
-    put_refused(out, 0, number, place);
-    Ok(length)
+    let mut page = Page::new(out);
+    put_refused(&mut page, number, place);
+    Ok(page.at)
 }
