@@ -9,11 +9,12 @@ use lib.ListN.{length, length-append}
 use Rattle.base.proofs.Laws.{false_true}
 use Rattle.mcsline.specs.Record.{Ending, Data, ExtendedLinearAddress, End, Line, Row, Fit}
 use Rattle.mcs.specs.Text.{file_text, FileFrom}
-use Rattle.mcs.specs.Reading.{Holds, read_text}
+use Rattle.mcs.specs.Reading.{Reading, read_text}
 use Rattle.mcs.proofs.Laws.{round_trip}
 use Rattle.canonical.specs.Canonical.{upper_line, upper_lines, data_line, part_lines, end_line, canonical_lines, canonical_text}
 use Rattle.canonical.specs.Rule.{data_of, AllLf, Sixteens, UppersBefore, InForm}
 use Rattle.canonical.proofs.PartLaws.{upper_here, upper_none, part_none, Piece, part_rows}
+use Rattle.std.specs.Prelude.{Ok}
 
 -- A file's image is the bytes of its data records.
 pub file_data : (lines : List Line) (half : ℕ) (image whole : List ℕ) → FileFrom half image lines whole → whole ≡ image ++ data_of lines
@@ -73,7 +74,7 @@ only_rows (Row End e ∷ lines) half at image whole f l s u n =
 
 -- A text in the form holds its image, and is the image's text.
 
-pub in_form_holds : (text : List ℕ) (f : InForm text) → read_text text ≡ Holds f.image
+pub in_form_holds : (text : List ℕ) (f : InForm text) → read_text text ≡ Ok f.image
 in_form_holds text f = ap read_text f.written ∙ round_trip.file_holds f.lines f.image f.file
 
 pub in_form_is : (text : List ℕ) (f : InForm text) → text ≡ canonical_text f.image
@@ -82,8 +83,8 @@ in_form_is text f =
     let image : f.image ≡ data_of f.lines = file_data f.lines 0 [] f.image f.file in
     f.written ∙ ap file_text (rows ∙ ap canonical_lines (sym image))
 
-holds_same : {image other : List ℕ} → Holds image ≡ Holds other → image ≡ other
+holds_same : {image other : List ℕ} → ◌≡◌ {A = Reading} (Ok image) (Ok other) → image ≡ other
 holds_same e = cc
 
-pub only : (text image : List ℕ) → InForm text → read_text text ≡ Holds image → text ≡ canonical_text image
+pub only : (text image : List ℕ) → InForm text → read_text text ≡ Ok image → text ≡ canonical_text image
 only text image f e = in_form_is text f ∙ ap canonical_text (holds_same (sym (in_form_holds text f) ∙ e))

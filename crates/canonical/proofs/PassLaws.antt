@@ -11,7 +11,7 @@ use lib.ListN.{length, length-append}
 use Rattle.base.specs.Question.{ask}
 use Rattle.base.proofs.Laws.{asked, asked_yes, false_true, equal_or_not}
 use Rattle.mcsline.specs.Record.{Ending, Lf, CrLf, ending_text, Record, Data, ExtendedLinearAddress, End, body_of, Line, Row, record_text, AllBytes, Fit}
-use Rattle.mcsline.specs.Line.{Parsed, Is, Refuses, parsed, by_parsed}
+use Rattle.mcsline.specs.Line.{Parsed, parsed, by_parsed}
 use Rattle.mcsline.proofs.Laws.{bytes_apart, text_parsed, parsed_text, record_long}
 use Rattle.kind.specs.Layout.{longest_chip}
 use Rattle.kind.proofs.Laws.{image_length_range}
@@ -26,27 +26,29 @@ use Rattle.canonical.proofs.PartLaws.{upper_here, upper_none, part_none, Piece, 
 use Rattle.canonical.proofs.LengthLaws.{data_long, upper_long, end_long}
 use Rattle.canonical.proofs.RuleLaws.{data_fits_law}
 use Rattle.canonical.proofs.TestLaws.{Yes, yes_says, test_exact}
+use Rattle.std.specs.Prelude.{Ok, Err}
+use Rattle.base.specs.declared.refusal.Reason.{Reason}
 
 -- THE TEXT OF AN IMAGE PASSES
 
 -- One line more.
 
 module _ (line : List ℕ) (lines : List (List ℕ)) (upper : Bool) (next : ℕ) where
-  pass_data : (address : ℕ) (bytes : List ℕ) → parsed line ≡ Is (Data address bytes) → lines_pass (line ∷ lines) upper next ≡ ask (data_fits upper next address (length bytes) (length line)) false (lines_pass lines false (next + length bytes))
+  pass_data : (address : ℕ) (bytes : List ℕ) → parsed line ≡ Ok (Data address bytes) → lines_pass (line ∷ lines) upper next ≡ ask (data_fits upper next address (length bytes) (length line)) false (lines_pass lines false (next + length bytes))
   unfolding lines_pass by_parsed
   pass_data address bytes p = rw p refl
 
-  pass_upper : (half : ℕ) → parsed line ≡ Is (ExtendedLinearAddress half) → lines_pass (line ∷ lines) upper next ≡ ask (upper_fits upper next half (length line)) false (lines_pass lines true next)
+  pass_upper : (half : ℕ) → parsed line ≡ Ok (ExtendedLinearAddress half) → lines_pass (line ∷ lines) upper next ≡ ask (upper_fits upper next half (length line)) false (lines_pass lines true next)
   unfolding lines_pass by_parsed
   pass_upper half p = rw p refl
 
-  pass_end : parsed line ≡ Is End → lines_pass (line ∷ lines) upper next ≡ ask (is_empty lines) false (end_fits upper next (length line))
+  pass_end : parsed line ≡ Ok End → lines_pass (line ∷ lines) upper next ≡ ask (is_empty lines) false (end_fits upper next (length line))
   unfolding lines_pass by_parsed
   pass_end p = rw p refl
 
-  pass_refused : (number : ℕ) → parsed line ≡ Refuses number → lines_pass (line ∷ lines) upper next ≡ false
+  pass_refused : (reason : Reason) → parsed line ≡ Err reason → lines_pass (line ∷ lines) upper next ≡ false
   unfolding lines_pass by_parsed
-  pass_refused number p = rw p refl
+  pass_refused reason p = rw p refl
 
 pass_none : (upper : Bool) (next : ℕ) → lines_pass [] upper next ≡ false
 unfolding lines_pass
@@ -205,7 +207,7 @@ abbrev Passed : List (List ℕ) → Type 0
 Passed lines = (upper : Bool) (next half : ℕ) (image : List ℕ) → length image ≡ next → InForce upper next half → lines_pass lines upper next ≡ true → Rows lines upper next half image
 
 module _ (line : List ℕ) (lines : List (List ℕ)) (ih : Passed lines) (upper : Bool) (next half : ℕ) (image : List ℕ) (here : length image ≡ next) (force : InForce upper next half) (good : lines_pass (line ∷ lines) upper next ≡ true) where
-  passed_data : (address : ℕ) (bytes : List ℕ) → parsed line ≡ Is (Data address bytes) → Rows (line ∷ lines) upper next half image
+  passed_data : (address : ℕ) (bytes : List ℕ) → parsed line ≡ Ok (Data address bytes) → Rows (line ∷ lines) upper next half image
   unfolding FileFrom AllLf Sixteens UppersBefore data_of Fit body_of
   passed_data address bytes p =
       let a = asked (data_fits upper next address (length bytes) (length line)) false (lines_pass lines false (next + length bytes)) true (sym (pass_data line lines upper next address bytes p) ∙ good) false_true in
@@ -240,7 +242,7 @@ module _ (line : List ℕ) (lines : List (List ℕ)) (ih : Passed lines) (upper 
       onward (inl f) h even some most = absurd (false_true f)
       onward (inr f) h even some most = omega arith
 
-  passed_upper : (other : ℕ) → parsed line ≡ Is (ExtendedLinearAddress other) → Rows (line ∷ lines) upper next half image
+  passed_upper : (other : ℕ) → parsed line ≡ Ok (ExtendedLinearAddress other) → Rows (line ∷ lines) upper next half image
   unfolding FileFrom AllLf Sixteens UppersBefore data_of body_of
   passed_upper other p =
       let a = asked (upper_fits upper next other (length line)) false (lines_pass lines true next) true (sym (pass_upper line lines upper next other p) ∙ good) false_true in
@@ -260,7 +262,7 @@ module _ (line : List ℕ) (lines : List (List ℕ)) (ih : Passed lines) (upper 
         even = r.even;
       }
 
-  passed_end : parsed line ≡ Is End → Rows (line ∷ lines) upper next half image
+  passed_end : parsed line ≡ Ok End → Rows (line ∷ lines) upper next half image
   unfolding FileFrom AllLf Sixteens UppersBefore data_of body_of
   passed_end p =
       let a = asked (is_empty lines) false (end_fits upper next (length line)) true (sym (pass_end line lines upper next p) ∙ good) false_true in
@@ -285,10 +287,10 @@ passed [] upper next half image here force good = absurd (false_true (sym (pass_
 passed (line ∷ lines) upper next half image here force good = go (parsed line) refl (passed lines)
   where
     go : (p : Parsed) → parsed line ≡ p → Passed lines → Rows (line ∷ lines) upper next half image
-    go (Refuses number) p ih = absurd (false_true (sym (pass_refused line lines upper next number p) ∙ good))
-    go (Is (Data address bytes)) p ih = passed_data line lines ih upper next half image here force good address bytes p
-    go (Is (ExtendedLinearAddress other)) p ih = passed_upper line lines ih upper next half image here force good other p
-    go (Is End) p ih = passed_end line lines ih upper next half image here force good p
+    go (Err reason) p ih = absurd (false_true (sym (pass_refused line lines upper next reason p) ∙ good))
+    go (Ok (Data address bytes)) p ih = passed_data line lines ih upper next half image here force good address bytes p
+    go (Ok (ExtendedLinearAddress other)) p ih = passed_upper line lines ih upper next half image here force good other p
+    go (Ok End) p ih = passed_end line lines ih upper next half image here force good p
 
 nothing_before : InForce false 0 0
 nothing_before c = refl

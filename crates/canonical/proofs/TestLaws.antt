@@ -11,7 +11,7 @@ use Rattle.base.proofs.Laws.{asked, false_true}
 use Rattle.mcsline.specs.Record.{Data, ExtendedLinearAddress, End, Line, Row, AllBytes, Fit}
 use Rattle.mcsline.proofs.Laws.{both_bytes}
 use Rattle.mcs.specs.Text.{FileFrom}
-use Rattle.mcs.specs.Reading.{Reading, Holds, Refused, read_text}
+use Rattle.mcs.specs.Reading.{Reading, read_text}
 use Rattle.mcs.specs.Reader.{answer_of, held_output}
 use Rattle.mcs.proofs.Laws.{round_trip}
 use Rattle.canonical.specs.Canonical.{canonical_lines, canonical_text}
@@ -20,8 +20,9 @@ use Rattle.canonical.specs.Test.{same_text, is_text_of, is_canonical}
 use Rattle.canonical.specs.Theorems.{OneText, ReadBack, TestExact}
 use Rattle.canonical.proofs.RuleLaws.{canonical_file, formed}
 use Rattle.canonical.proofs.OnlyLaws.{file_data, in_form_holds, in_form_is, only}
+use Rattle.std.specs.Prelude.{Ok, Err}
 
-canonical_holds : (image : List ℕ) → AllBytes image → writable (length image) ≡ true → read_text (canonical_text image) ≡ Holds image
+canonical_holds : (image : List ℕ) → AllBytes image → writable (length image) ≡ true → read_text (canonical_text image) ≡ Ok image
 canonical_holds image small e = round_trip.file_holds (canonical_lines image) image (canonical_file image small e)
 
 pub one_text : OneText
@@ -64,7 +65,7 @@ data_bytes (Row (Data address bytes) e ∷ lines) half image whole f = both_byte
 data_bytes (Row (ExtendedLinearAddress upper) e ∷ lines) half image whole f = data_bytes lines upper image whole f.1
 data_bytes (Row End e ∷ lines) half image whole f = rw f.0 tt
 
-holds_bytes : (text image : List ℕ) → read_text text ≡ Holds image → AllBytes image
+holds_bytes : (text image : List ℕ) → read_text text ≡ Ok image → AllBytes image
 holds_bytes text image e =
     let w = round_trip.holds_file text image e in
     subst AllBytes (sym (file_data w.0 0 [] image w.1.1)) (data_bytes w.0 0 [] image w.1.1)
@@ -81,8 +82,8 @@ unfolding is_text_of
 yes_says text e = go (read_text text) refl e
   where
     go : (r : Reading) → read_text text ≡ r → is_text_of text r ≡ true → Yes text
-    go (Refused number place) h y = absurd (false_true y)
-    go (Holds image) h y =
+    go (Err refusal) h y = absurd (false_true y)
+    go (Ok image) h y =
         let a = asked (writable (length image)) false (same_text text (canonical_text image)) true y false_true in
         record { image = image; bytes = holds_bytes text image h; long = a.0; is = same_is text (canonical_text image) a.1 }
 
