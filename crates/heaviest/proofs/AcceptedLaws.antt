@@ -8,6 +8,7 @@ use native.Mathlib.Nat.{zero-add}
 use native.Mathlib.Omega.{arith}
 use borrow.Author.Tests.{le-leb, lt-leb}
 use lib.ListN.{length, drop, replicate, length-replicate}
+use Rattle.std.specs.Prelude.{Some, Ok}
 use Rattle.base.specs.Question.{ask}
 use Rattle.base.proofs.Laws.{below_or_not}
 use Rattle.framing.specs.Search.{begins_with, find}
@@ -20,11 +21,11 @@ use Rattle.configreader.specs.Configreader.{read_from, read_alone}
 use Rattle.configreader.proofs.Laws.{Proper, proper, shortest_reading, loads_from}
 use Rattle.kind.specs.Spi.{spi}
 use Rattle.bootreader.specs.Boot.{boot_answer}
-use Rattle.bootreader.specs.Image.{longest_image, image_answer}
+use Rattle.bootreader.specs.Image.{longest_image, image_answer, accepted}
 use Rattle.bootreader.proofs.Laws.{accepts, accepted_reads, booted}
 use Rattle.heaviest.specs.Heaviest.{heaviest_length_allowed, most_in, most_writes, heaviest_headers, null_command, heaviest_image}
 use Rattle.heaviest.specs.Theorems.{MostWrites, NothingLoadsMore}
-use Rattle.heaviest.specs.Types.{SyncAt, Type1, Type2, FinishEnded, Loaded, BootLoaded, Accepted}
+use Rattle.heaviest.specs.Types.{Type1, Type2, FinishEnded, Loaded, BootLoaded}
 use Rattle.heaviest.proofs.ImageLaws.{allowed_range, most_few, most_many, by_headers, divided, image_length_law}
 
 -- THE PACKET. Its data words: the first ones let the reading go on, and DESYNC ends it.
@@ -83,7 +84,7 @@ packet_words w long small =
     (λ many. let m = most_many w many in (omega arith, (omega arith, data_words (most_in w - 1))))
 
 module _ (n : ℕ) (allowed : heaviest_length_allowed n ≡ true) where
-  found : find (drop 0 (heaviest_image n)) 0 ≡ SyncAt 0
+  found : find (drop 0 (heaviest_image n)) 0 ≡ Some 0
   unfolding begins_with bytes_of_words
   found = find_here (heaviest_image n) 0 refl
 
@@ -101,8 +102,8 @@ module _ (n : ℕ) (allowed : heaviest_length_allowed n ≡ true) where
       loads_from 0 false (heaviest_image n) 0 0 (4 * (n / 4)) (most_writes n) found
       (ap (λ (l : List ℕ). finish (trace l 4 (header other)) 0 0) after_sync ∙ packet_reads (n / 4) 4 (omega arith) (omega arith) ∙ ap (λ (p : ℕ). FinishEnded p (most_writes n)) end)
 
-  accepted : image_answer spi (heaviest_image n) ≡ Accepted 0 (4 * (n / 4)) (most_writes n)
-  accepted =
+  reached : image_answer spi (heaviest_image n) ≡ accepted 0 (4 * (n / 4)) (most_writes n)
+  reached =
       let r = allowed_range n allowed in
       let l = image_length_law n r.0 in
       accepts (heaviest_image n) 0 (4 * (n / 4)) (most_writes n) false (omega arith) (omega arith) reads
@@ -141,15 +142,15 @@ most_grows n m h = ⊎_elim many few (below_or_not 2049 (m / 4))
     few : m / 4 ≤ 2049 → most_writes n ≤ most_writes m
     few g = let b = most_few (m / 4) g in let a = most_few (n / 4) (omega arith) in omega arith
 
-image_most : (image : List ℕ) (sync end writes : ℕ) → image_answer spi image ≡ Accepted sync end writes → writes ≤ most_writes (length image)
+image_most : (image : List ℕ) (sync end writes : ℕ) → image_answer spi image ≡ accepted sync end writes → writes ≤ most_writes (length image)
 unfolding image_answer
 image_most image sync end writes e = reading_most 0 false image 0 sync end writes false (omega arith) (accepted_reads longest_image image sync end writes e)
 
-chip_most : (chip : List ℕ) (sync end writes : ℕ) (jumped : Bool) → boot_answer spi chip ≡ BootLoaded sync end writes jumped → writes ≤ most_writes (length chip)
+chip_most : (chip : List ℕ) (sync end writes : ℕ) (jumped : Bool) → boot_answer spi chip ≡ Ok (BootLoaded sync end writes jumped) → writes ≤ most_writes (length chip)
 chip_most chip sync end writes jumped e = reading_most 1 false chip 0 sync end writes jumped (omega arith) (booted chip sync end writes jumped e)
 
 pub most_writes_reached : MostWrites
-most_writes_reached = record { long = λ n e. image_length_law n (allowed_range n e).0; reached = accepted; bound = image_most }
+most_writes_reached = record { long = λ n e. image_length_law n (allowed_range n e).0; reached = reached; bound = image_most }
 
 pub nothing_loads_more : NothingLoadsMore
 nothing_loads_more = record { chip = chip_most; reading = reading_most; grows = most_grows }

@@ -8,9 +8,10 @@ use native.Mathlib.Omega.{arith}
 use borrow.Author.Tests.{leb-true, le-leb, lt-leb}
 use lib.ListN.{length, drop, replicate, length-append, length-replicate, replicate-append-replicate}
 use lib.Seq.{drop_at}
+use Rattle.std.specs.Prelude.{Result, Ok, Err}
 use Rattle.base.specs.Output.{front_filled}
 use Rattle.base.specs.Question.{ask}
-use Rattle.base.specs.Refusal.{bad_heaviest_length, no_room}
+use Rattle.base.specs.Refusal.{refused}
 use Rattle.base.proofs.Laws.{false_true, asked, below_or_not, front_fits}
 use Rattle.framing.specs.Words.{bytes_of_words}
 use Rattle.framing.proofs.Laws.{bytes_words_append, bytes_words_length, bytes_of_zeros}
@@ -20,7 +21,7 @@ use Rattle.flash.specs.Flash.{erased, overwrite_in_range}
 use Rattle.flash.proofs.Laws.{front_on, front_again, erased_length}
 use Rattle.heaviest.specs.Heaviest.{heaviest_length_allowed, most_in, most_writes, heaviest_headers, heaviest_image, most_answer, heaviest_answer, heaviest_output}
 use Rattle.heaviest.specs.Internal.{opening}
-use Rattle.heaviest.specs.Types.{Most, MostRefused}
+use Rattle.heaviest.specs.Types.{BadHeaviestLength, NoRoom, Refusal}
 
 pub allowed_range : (n : ℕ) → heaviest_length_allowed n ≡ true → (shortest_image ≤ n) × (n ≤ longest_image)
 unfolding heaviest_length_allowed
@@ -126,27 +127,27 @@ module _ (n : ℕ) where
 -- WHAT THE CALLS ANSWER, by the tests on the way.
 module _ (n : ℕ) where
   -- A length that is refused is refused by both,
-  pub most_refused : (number place : ℕ) → most_answer n ≡ MostRefused number place → (room : ℕ) (buffer : List ℕ) → (heaviest_answer n room ≡ MostRefused number place) × (heaviest_output n buffer ≡ buffer)
+  pub most_refused : (r : Refusal) → most_answer n ≡ Err r → (room : ℕ) (buffer : List ℕ) → (heaviest_answer n room ≡ Err r) × (heaviest_output n buffer ≡ buffer)
   unfolding most_answer heaviest_answer heaviest_output ask
-  most_refused number place e room buffer = go (heaviest_length_allowed n) refl e
+  most_refused r e room buffer = go (heaviest_length_allowed n) refl e
     where
-      go : (b : Bool) → heaviest_length_allowed n ≡ b → ask b (MostRefused bad_heaviest_length 0) (Most (most_writes n)) ≡ MostRefused number place → (heaviest_answer n room ≡ MostRefused number place) × (heaviest_output n buffer ≡ buffer)
-      go false r q = (rw r q, rw r refl)
-      go true r q = let z : ◌≡◌ {A = ℕ} 0 1 = cc in absurd (omega arith)
+      go : (b : Bool) → heaviest_length_allowed n ≡ b → ask b (refused BadHeaviestLength 0) (Ok (most_writes n)) ≡ Err r → (heaviest_answer n room ≡ Err r) × (heaviest_output n buffer ≡ buffer)
+      go false p q = (rw p q, rw p refl)
+      go true p q = let z : ◌≡◌ {A = ℕ} 0 1 = cc in absurd (omega arith)
 
   -- and of one that is not, the room decides.
-  module _ (writes : ℕ) (e : most_answer n ≡ Most writes) where
-    allowed : (heaviest_length_allowed n ≡ true) × (Most (most_writes n) ≡ Most writes)
+  module _ (writes : ℕ) (e : most_answer n ≡ Ok writes) where
+    allowed : (heaviest_length_allowed n ≡ true) × (◌≡◌ {A = Result ℕ Refusal} (Ok (most_writes n)) (Ok writes))
     unfolding most_answer
     allowed = asked _ _ _ _ e (λ q. let z : ◌≡◌ {A = ℕ} 0 1 = cc in omega arith)
 
     pub most_is : (shortest_image ≤ n) × (n ≤ longest_image) × (writes ≡ most_writes n)
     most_is = let r = allowed_range n allowed.0 in let q = allowed.1 in (r.0, r.1, cc)
 
-    pub most_small : (buffer : List ℕ) → length buffer < n → (heaviest_answer n (length buffer) ≡ MostRefused no_room 0) × (heaviest_output n buffer ≡ buffer)
+    pub most_small : (buffer : List ℕ) → length buffer < n → (heaviest_answer n (length buffer) ≡ refused NoRoom 0) × (heaviest_output n buffer ≡ buffer)
     unfolding heaviest_answer heaviest_output front_filled ask
     most_small buffer h = (rw (allowed.0, lt-leb n (length buffer) h) refl, rw (allowed.0, lt-leb (length (heaviest_image n)) (length buffer) (omega (arith, image_length_law n most_is.0))) refl)
 
-    pub most_written : (buffer : List ℕ) → n ≤ length buffer → (heaviest_answer n (length buffer) ≡ Most writes) × (heaviest_output n buffer ≡ front_filled (heaviest_image n) buffer)
+    pub most_written : (buffer : List ℕ) → n ≤ length buffer → (heaviest_answer n (length buffer) ≡ Ok writes) × (heaviest_output n buffer ≡ front_filled (heaviest_image n) buffer)
     unfolding heaviest_answer heaviest_output ask
     most_written buffer h = (rw (allowed.0, le-leb n (length buffer) h) allowed.1, rw allowed.0 refl)
