@@ -89,6 +89,7 @@ fn put_image(image_length: usize, writes: usize, out: &mut [u8])
 }
 
 // The greatest number of writes that an accepted image of so many bytes can have; or refusal 29.
+#[tactic(auto, unfolding(crate::specs::Heaviest::most_answer, base::specs::Question::ask), using(base::proofs::Laws::gives))]
 pub fn most_writes(image_length: usize) -> Result<usize, Refusal>
     ensures { Gives most_numbers result (most_answer image_length) }
 {
