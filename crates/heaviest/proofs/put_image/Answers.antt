@@ -6,11 +6,15 @@ use native.Mathlib.Omega.{arith}
 use lib.ListN.{length, replicate}
 use Rattle.flash.specs.Flash.{erased, overwrite_in_range}
 use Rattle.heaviest.specs.Internal.{opening}
-use Rattle.heaviest.proofs.ImageLaws.{desync_bytes, written}
+use Rattle.heaviest.proofs.ImageLaws.{opening_length, desync_bytes, written}
 use Rattle.heaviest.proofs.put_image.Goals as goal
 
 pub put_opening-requires : goal.put_opening-requires
-put_opening-requires c = let p = c.requires in (p.2, omega arith)
+put_opening-requires c =
+    let p = c.requires in
+    let l = opening_length (c.args.image_length / 4) (omega arith) in
+    let kept = c.fill.auto.chip in
+    (p.2, omega arith, omega arith)
 
 pub returns : goal.returns
 returns c =

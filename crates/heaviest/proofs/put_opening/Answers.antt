@@ -1,5 +1,7 @@
 -- `put_opening` meets its contract.
 use Rattle.std.proofs.Common.{ℕ, ◌+◌, ◌*◌, ◌<◌, ◌≤◌, ◌≡◌, List, [], ◌∷◌, length, sym, ap, ◌∙◌, arith}
+use mathlib.Core.Logic.{⊎_elim}
+use Rattle.base.proofs.Laws.{below_or_not}
 use Rattle.framing.specs.Words.{bytes_of_words}
 use Rattle.framing.proofs.Laws.{bytes_words_length}
 use Rattle.flash.specs.Flash.{overwrite_in_range}
@@ -20,11 +22,11 @@ many-headers : (words writes : ℕ) → 2049 < words → writes ≡ most_in word
 many-headers words writes h e = ap (λ (n : ℕ). 0x30008000 ∷ (0x50000000 + n) ∷ []) e ∙ sym (headers_many words h)
 
 -- as many bytes as the words have
-opening-bytes : (words : ℕ) (headers : List ℕ) → headers ≡ heaviest_headers words → length (opening words) ≡ 4 * (1 + length headers)
-opening-bytes words headers e = bytes_words_length (0xAA995566 ∷ heaviest_headers words) ∙ ap (λ (l : List ℕ). 4 * (1 + length l)) (sym e)
+opening-bytes : (words : ℕ) (headers : List ℕ) → headers ≡ heaviest_headers words → length (opening words) ≡ 4 * length (0xAA995566 ∷ headers)
+opening-bytes words headers e = bytes_words_length (0xAA995566 ∷ heaviest_headers words) ∙ ap (λ (l : List ℕ). 4 * length (0xAA995566 ∷ l)) (sym e)
 
 count : (words writes : ℕ) → writes ≡ most_in words → writes ≤ words
-count words writes e = ?
+count words writes e = ⊎_elim (λ h. let m = most_many words h in omega arith) (λ h. let m = most_few words h in omega arith) (below_or_not 2049 words)
 
 pub overflow_cast-count : goal.overflow_cast-count
 overflow_cast-count c = let p = c.requires in let m = count c.args.words c.args.writes p.0 in omega arith
