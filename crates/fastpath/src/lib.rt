@@ -27,10 +27,7 @@ fn may_skip(s: &[u8], at: usize, register: u32, count: usize, room: usize) -> bo
     requires { count ≤ room → count ≤ length (words (drop at s.now)) }
     ensures { result ≡ true → (1 ≤ count) × (count ≤ room) × ((i : ℕ) → i < count → effect_of register (get_or (words (drop at s.now)) i 0) ≡ GoesOn) }
 {
-    if count == 0 {
-        return false;
-    }
-    if room < count {
+    if count == 0 || room < count {
         return false;
     }
     if FEW < count {
@@ -57,10 +54,7 @@ fn skip_counted(s: &[u8], w: Scanner, count: usize, room: usize) -> Scanner
     requires { HasRoom s.now w count room × (1 ≤ count → CountedBegins s.now w count) }
     ensures { SkipKeeps s.now w result }
 {
-    if count == 0 {
-        return w;
-    }
-    if room < count {
+    if count == 0 || room < count {
         return w;
     }
     after_packet(s, after_header(w, 0, count, true))
@@ -121,10 +115,7 @@ fn is_nop_at(s: &[u8], at: usize) -> bool
     requires { at ≤ length s.now }
     ensures { result ≡ true → (at + 4 ≤ length s.now) × (word_at s.now at ≡ NOP) }
 {
-    if s.len() - at < 4 {
-        return false;
-    }
-    word_at(s, at) == NOP
+    s.len() - at >= 4 && word_at(s, at) == NOP
 }
 
 // The scanner after the no-operation at its place and those that follow it. They come in rows, and this loop asks nothing else.

@@ -5,6 +5,7 @@ use mathlib.Core.Bool.{Bool, true, false, ◌&&◌, beq}
 use mathlib.Core.Logic.{inl, inr}
 use native.Mathlib.Omega.{arith}
 use lib.Dec.{eqb}
+use Rattle.packets.specs.Header.{in_set}
 use Rattle.base.proofs.Laws.{both_true, below_or_not}
 
 beq_equal : (a b : Bool) → beq a b ≡ true → a ≡ b
@@ -12,9 +13,6 @@ beq_equal true true e = refl
 beq_equal true false e = sym e
 beq_equal false true e = e
 beq_equal false false e = refl
-
-abbrev pub in_set : ℕ → ℕ → Bool
-in_set bits i = eqb (bits / 2 ^ i % 2) 1
 
 unfoldable pub is_set_of : ℕ → (ℕ → Bool) → ℕ → Bool
 is_set_of bits says zero = true

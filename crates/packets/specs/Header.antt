@@ -19,6 +19,10 @@ DESYNC = 0x0000000D
 abbrev pub IPROG : ℕ
 IPROG = 0x0000000F
 
+-- a set of numbers as bits: the one at a number says whether it is in the set
+abbrev pub in_set : ℕ → ℕ → Bool
+in_set bits i = eqb (bits / 2 ^ i % 2) 1
+
 -- A write header names a register that the FPGA guide lists: 0 to 14, 16, 17, 22, 24 or 31.
 unfoldable pub register_ok : ℕ → Bool
 register_ok register =

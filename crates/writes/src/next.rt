@@ -42,10 +42,7 @@ fn scan_for_data(s: &[u8], from: usize) -> Option<DataWord>
 fn begins_packet(word: u32) -> bool
     ensures { result ≡ true → (head_of word ≡ Type1 (word / 8192 % 32) (word % 2048)) × (0 < word % 2048) }
 {
-    if word % 0x0800 == 0 {
-        return false;
-    }
-    is_type1_write(word)
+    word % 0x0800 != 0 && is_type1_write(word)
 }
 
 // The first data word of the packets from `from` on. Most often it comes after one header, and nothing is scanned for.
