@@ -1,3 +1,3 @@
 pub mod Laws
-mod PacketLaws
+pub mod PacketLaws
 mod ReaderLaws

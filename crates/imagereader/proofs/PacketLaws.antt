@@ -2,13 +2,15 @@
 use Prim.Native.Nat.{ℕ, zero, suc, ◌+◌, ◌-◌, ◌*◌, ◌<◌, ◌≤◌}
 use mathlib.Core.Path.{◌≡◌, refl, sym, ap, ◌∙◌}
 use mathlib.Core.Logic.{◌⊎◌, inl, inr}
-use mathlib.Core.Option.{Option, some, none}
+use mathlib.Core.Option as maybe
+use mathlib.Core.Option.{some, none}
 use mathlib.Core.List.{List, [], ◌∷◌}
 use native.Mathlib.Nat.{add-zero, zero-add, sub-zero}
 use native.Mathlib.Omega.{arith}
 use lib.ListN.{length, get_or, drop}
 use lib.Seq.{drop-cons, drop-length}
-use Rattle.base.specs.Refusal.{image_fault, image_jumps}
+use Rattle.std.proofs.Common.{Option, Some, None, Result, Ok}
+use Rattle.base.specs.Refusal.{refused}
 use Rattle.framing.specs.Words.{words}
 use Rattle.packets.specs.Header.{head_of, effect_of}
 use Rattle.packets.specs.Trace.{Before, other, Mode, header, payload, mode_of, after_header, Trace, wrote, desync, iprog, faulty, short, trace, trace_from}
@@ -18,7 +20,7 @@ use Rattle.packets.proofs.Laws.{trace_data, trace_desync, trace_iprog, trace_hea
 use Rattle.framing.proofs.Laws.{words_cons}
 use Rattle.imagereader.specs.Imagereader.{past_end, packet, packet_of, first_packet}
 use Rattle.imagereader.specs.Internal.{end_answer, stop_by, stop_answer}
-use Rattle.imagereader.specs.Types.{Effect, GoesOn, Desync, EffectIprog, Write, Finish, FinishEnded, FinishIprog, FinishFault, FinishShort, Scanner, Status, Going, AtWrite, AtEnd, AtIprog, AtFault, AtShort, PacketAnswer, PacketEnd, PacketRefused}
+use Rattle.imagereader.specs.Types.{Effect, GoesOn, Desync, EffectIprog, Write, Finish, FinishEnded, FinishIprog, FinishFault, FinishShort, Scanner, Status, Going, AtWrite, AtEnd, AtIprog, AtFault, AtShort, ImageFault, ImageJumps, Refusal, Packet}
 
 -- the words after the first
 later : (s : List ℕ) (p x : ℕ) (ws : List ℕ) → x ∷ ws ≡ words (drop p s) → ws ≡ words (drop (p + 4) s)
@@ -38,7 +40,7 @@ unfolding packet_of trace
 whole image register first count [] p before = refl
 whole image register first count (x ∷ ws) p before = go (after_header (head_of x) before) refl (λ b. whole image register first count ws (p + 4) b)
   where
-    go : (o : Option Mode) → after_header (head_of x) before ≡ o →
+    go : (o : maybe.Option Mode) → after_header (head_of x) before ≡ o →
         ((b : Before) → packet_of image register first count 0 (trace ws (p + 4) (header b)) ≡ packet register first count (first + 4 * count)) →
         packet_of image register first count 0 (trace (x ∷ ws) p (header before)) ≡ packet register first count (first + 4 * count)
     go none e ih = rw (e, trace) refl
@@ -69,7 +71,7 @@ desync_ends : (image : List ℕ) (register first count left end later : ℕ) (wr
 unfolding packet_of
 desync_ends image register first count left end later write = refl
 
-iprog_ends : (image : List ℕ) (register first count left place later : ℕ) (write : Write) → packet_of image register first count (suc left) (wrote write later (iprog place)) ≡ PacketRefused image_jumps place
+iprog_ends : (image : List ℕ) (register first count left place later : ℕ) (write : Write) → packet_of image register first count (suc left) (wrote write later (iprog place)) ≡ refused ImageJumps place
 unfolding packet_of
 iprog_ends image register first count left place later write = refl
 
@@ -98,7 +100,7 @@ module _ (image : List ℕ) (register first left : ℕ) (some_word : 0 < length 
       after_run run (omega arith) b q ∙ rw none_left (whole image register first run (drop run ws) (first + 4 * run) other)
 
   pub packet_short : (run : ℕ) → run ≡ length ws → run ≤ left → ((i : ℕ) → i < run → effect_of register (get_or ws i 0) ≡ GoesOn) →
-      first_packet image (trace ws first (payload register left)) ≡ PacketRefused image_fault (length image)
+      first_packet image (trace ws first (payload register left)) ≡ refused ImageFault (length image)
   unfolding packet_of trace
   packet_short run e a q =
       let more : suc left - run ≡ suc (left - run) = omega arith in
@@ -134,7 +136,7 @@ unfolding trace
 first_data image [] p m h = inr (inr refl)
 first_data image (x ∷ ws) p (header before) h = go (after_header (head_of x) before) refl (λ m. first_data image ws (p + 4) m (later image p x ws h))
   where
-    go : (o : Option Mode) → after_header (head_of x) before ≡ o →
+    go : (o : maybe.Option Mode) → after_header (head_of x) before ≡ o →
         ((m : Mode) → FirstData image (p + 4) (trace ws (p + 4) m) ⊎ (((place : ℕ) × (trace ws (p + 4) m ≡ faulty place)) ⊎ (trace ws (p + 4) m ≡ short))) →
         FirstData image p (trace (x ∷ ws) p (header before)) ⊎ (((place : ℕ) × (trace (x ∷ ws) p (header before) ≡ faulty place)) ⊎ (trace (x ∷ ws) p (header before) ≡ short))
     go none e ih = inr (inl (p, trace_fault x ws p before e))
@@ -167,27 +169,27 @@ reached_data image at write left e = go (first_data image (words (drop at image)
         let same_write : record { register = d.register; word = get_or (words (drop d.first image)) 0 0; place = d.first } ≡ write = cc in
         let same_left : d.left ≡ left = cc in
         rw (sym same_write, sym same_left) d.same
-    go (inr (inl f)) = let z = sym e ∙ ap (λ (t : Trace). scanned t 0 0 0) f.1 in let w : ◌≡◌ {A = ℕ} 0 1 = cc in absurd (omega arith)
-    go (inr (inr f)) = let z = sym e ∙ ap (λ (t : Trace). scanned t 0 0 0) f in let w : ◌≡◌ {A = ℕ} 0 1 = cc in absurd (omega arith)
+    go (inr (inl f)) = let z = sym e ∙ ap (λ (t : Trace). scanned t 0 0 0) f.1 in cc
+    go (inr (inr f)) = let z = sym e ∙ ap (λ (t : Trace). scanned t 0 0 0) f in cc
 
 pub scan_reached : (image : List ℕ) (at : ℕ) (w : Scanner) → w.status ≡ AtWrite → scan_of image w ≡ scan_of image (scanner_from at 0) →
     trace_from image at ≡ trace (words (drop w.at image)) w.at (payload w.register w.left)
 scan_reached image at w e came = reached_data image at _ w.left (sym (from_place image at) ∙ sym came ∙ at_write image w e)
 
 -- where it comes to none, what it stops at is the answer
-unfoldable pub finish_answer : List ℕ → Finish → PacketAnswer
-finish_answer image (FinishEnded end writes) = PacketEnd
-finish_answer image (FinishIprog place to) = PacketRefused image_jumps place
-finish_answer image (FinishFault place) = PacketRefused image_fault place
-finish_answer image FinishShort = PacketRefused image_fault (length image)
+unfoldable pub finish_answer : List ℕ → Finish → Result (Option Packet) Refusal
+finish_answer image (FinishEnded end writes) = Ok None
+finish_answer image (FinishIprog place to) = refused ImageJumps place
+finish_answer image (FinishFault place) = refused ImageFault place
+finish_answer image FinishShort = refused ImageFault (length image)
 
-unfoldable scan_answer : List ℕ → ScanResult → PacketAnswer
-scan_answer image (ScanReached write left) = PacketEnd
+unfoldable scan_answer : List ℕ → ScanResult → Result (Option Packet) Refusal
+scan_answer image (ScanReached write left) = Ok None
 scan_answer image (ScanFinished end) = finish_answer image end
 
 first_finish : (image : List ℕ) (t : Trace) (end : Finish) → scanned t 0 0 0 ≡ ScanFinished end → first_packet image t ≡ scan_answer image (scanned t 0 0 0)
 unfolding first_packet finish_answer scan_answer scanned
-first_finish image (wrote write left more) end e = let z : ◌≡◌ {A = ℕ} 0 1 = cc in absurd (omega arith)
+first_finish image (wrote write left more) end e = cc
 first_finish image (desync at) end e = refl
 first_finish image (iprog place) end e = refl
 first_finish image (faulty place) end e = refl

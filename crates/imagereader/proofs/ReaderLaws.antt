@@ -12,7 +12,8 @@ use lib.Seq.{drop-cons, drop-length}
 use denote.Ref.{Bor}
 use Rattle.base.specs.Question.{ask}
 use Rattle.base.proofs.Laws.{asked, below_or_not}
-use Rattle.base.specs.Refusal.{bad_image_length, image_fault, image_jumps}
+use Rattle.std.proofs.Common.{Option, Some, None, Result, Ok}
+use Rattle.base.specs.Refusal.{refused}
 use Rattle.framing.specs.Search.{find}
 use Rattle.framing.specs.Words.{words}
 use Rattle.framing.proofs.Laws.{find_within, room, words_on}
@@ -23,21 +24,21 @@ use Rattle.kind.specs.Layout.{image_length_allowed}
 use Rattle.kind.specs.Spi.{spi}
 use Rattle.configreader.specs.Configreader.{read_at, search_from, jump, read_alone, listed}
 use Rattle.configreader.proofs.Laws.{alone_parts}
-use Rattle.bootreader.specs.Image.{longest_image, alone_case, ask_image, image_answer}
+use Rattle.bootreader.specs.Image.{longest_image, accepted as is_accepted, alone_case, ask_image, image_answer}
 use Rattle.bootreader.proofs.Laws.{on_answer, by_answer, accepted_reads, accepted_sync, accepted_lists}
 use Rattle.imagereader.specs.Imagereader.{past_end, first_packet, packet_at, first_place, place_after, reader_at, next_of, reader_after, nth_next, word_writes, packet_writes, given_writes}
 use Rattle.imagereader.specs.Theorems.{ReaderReads, PacketsInside}
 use Rattle.imagereader.specs.Internal.{end_answer}
-use Rattle.imagereader.specs.Types.{Found, SyncAt, NoSync, Effect, GoesOn, Desync, EffectIprog, Write, Finish, FinishEnded, FinishIprog, FinishFault, FinishShort, Accepted, Packet, PacketAnswer, PacketFound, PacketEnd, PacketRefused, Reader}
+use Rattle.imagereader.specs.Types.{Reason, BadImageLength, ImageFault, ImageJumps, Refusal, Effect, GoesOn, Desync, EffectIprog, Write, Finish, FinishEnded, FinishIprog, FinishFault, FinishShort, Packet, Reader}
 use Rattle.imagereader.proofs.PacketLaws.{finish_answer, FirstData, first_data, packet_whole, packet_short, packet_ended}
 
 -- What all packets of a trace come to: the end, or the refusal.
-unfoldable pub end_of : List ℕ → Trace → PacketAnswer
+unfoldable pub end_of : List ℕ → Trace → Result (Option Packet) Refusal
 end_of image (wrote write left more) = end_of image more
-end_of image (desync end) = PacketEnd
-end_of image (iprog place) = PacketRefused image_jumps place
-end_of image (faulty place) = PacketRefused image_fault place
-end_of image short = PacketRefused image_fault (length image)
+end_of image (desync end) = Ok None
+end_of image (iprog place) = refused ImageJumps place
+end_of image (faulty place) = refused ImageFault place
+end_of image short = refused ImageFault (length image)
 
 -- The data words of a packet, up to the first that does not let the reading go on.
 
@@ -69,8 +70,8 @@ plain_run (x ∷ ws) (suc n) register = go (effect_of register x) refl (plain_ru
         stops = λ a b. r.1.stops (omega arith) (omega arith);
       },
     )
-    go Desync e r = stop (λ f. let z = sym e ∙ f in let w : ◌≡◌ {A = ℕ} 0 1 = cc in omega arith)
-    go EffectIprog e r = stop (λ f. let z = sym e ∙ f in let w : ◌≡◌ {A = ℕ} 0 1 = cc in omega arith)
+    go Desync e r = stop (λ f. let z = sym e ∙ f in cc)
+    go EffectIprog e r = stop (λ f. let z = sym e ∙ f in cc)
 
 -- After j data words that let the reading go on: the same end, and j writes fewer.
 module _ (image : List ℕ) (register : ℕ) where
@@ -111,11 +112,11 @@ writes_snoc register (suc j) (x ∷ ws) p h =
 
 -- WHAT THE FIRST PACKET LEAVES: a refusal is that of all packets; after the last packet nothing comes, and after any other the packets from its `next` on.
 data Stepped (image : List ℕ) (at : ℕ) (t : Trace) : Type 0 where
-  step_refused : (number place : ℕ) → first_packet image t ≡ PacketRefused number place → end_of image t ≡ PacketRefused number place → Stepped image at t
-  step_last : (found : Packet) → first_packet image t ≡ PacketFound found → found.first + 4 * found.count ≤ length image → at < length image → found.next ≡ past_end image →
-      end_of image t ≡ PacketEnd → list_of t ≡ packet_writes image (PacketFound found) → Stepped image at t
-  step_more : (found : Packet) → first_packet image t ≡ PacketFound found → found.first + 4 * found.count ≤ length image → at < found.next → found.next ≤ length image →
-      end_of image t ≡ end_of image (trace_from image found.next) → list_of t ≡ packet_writes image (PacketFound found) ++ list_of (trace_from image found.next) → Stepped image at t
+  step_refused : (reason : Reason) (place : ℕ) → first_packet image t ≡ refused reason place → end_of image t ≡ refused reason place → Stepped image at t
+  step_last : (found : Packet) → first_packet image t ≡ Ok (Some found) → found.first + 4 * found.count ≤ length image → at < length image → found.next ≡ past_end image →
+      end_of image t ≡ Ok None → list_of t ≡ packet_writes image (Ok (Some found)) → Stepped image at t
+  step_more : (found : Packet) → first_packet image t ≡ Ok (Some found) → found.first + 4 * found.count ≤ length image → at < found.next → found.next ≤ length image →
+      end_of image t ≡ end_of image (trace_from image found.next) → list_of t ≡ packet_writes image (Ok (Some found)) ++ list_of (trace_from image found.next) → Stepped image at t
 
 module _ (image : List ℕ) (at register first left : ℕ) (behind : at ≤ first) (some_word : 0 < length (words (drop first image))) where
   abbrev ws : List ℕ
@@ -188,12 +189,12 @@ stepped image at = go (first_data image (words (drop at image)) at (header other
 pub found_inside : PacketsInside
 unfolding packet_at
 found_inside image at found e =
-    let allowed = asked _ _ _ _ e (λ q. let z : ◌≡◌ {A = ℕ} 0 1 = cc in omega arith) in
-    let within = asked _ _ _ _ allowed.1 (λ q. let z : ◌≡◌ {A = ℕ} 0 1 = cc in omega arith) in
+    let allowed = asked _ _ _ _ e (λ q. cc) in
+    let within = asked _ _ _ _ allowed.1 (λ q. cc) in
     go within.1 (stepped image at)
   where
-    go : first_packet image (trace_from image at) ≡ PacketFound found → Stepped image at (trace_from image at) → found.first + 4 * found.count ≤ length image
-    go h (step_refused number place f e) = let z = sym f ∙ h in let w : ◌≡◌ {A = ℕ} 0 1 = cc in absurd (omega arith)
+    go : first_packet image (trace_from image at) ≡ Ok (Some found) → Stepped image at (trace_from image at) → found.first + 4 * found.count ≤ length image
+    go h (step_refused reason place f e) = let z = sym f ∙ h in cc
     go h (step_last given f i a next e w) = let z = sym f ∙ h in let same : given ≡ found = cc in rw (sym same) i
     go h (step_more given f i a b e w) = let z = sym f ∙ h in let same : given ≡ found = cc in rw (sym same) i
 
@@ -204,13 +205,13 @@ abbrev pub reader : Bor (List ℕ) → ℕ → Reader
 reader s at = record { image = s; at = at }
 
 -- A reader that does not move gives the same answer again.
-pub stays : (n : ℕ) (s : Bor (List ℕ)) (at : ℕ) (answer : PacketAnswer) → packet_at s.now at ≡ answer → place_after answer at ≡ at → nth_next n (reader s at) ≡ answer
+pub stays : (n : ℕ) (s : Bor (List ℕ)) (at : ℕ) (answer : Result (Option Packet) Refusal) → packet_at s.now at ≡ answer → place_after answer at ≡ at → nth_next n (reader s at) ≡ answer
 unfolding nth_next
 stays zero s at answer e f = e
 stays (suc n) s at answer e f = rw (e, f) (stays n s at answer e f)
 
 -- At the end it gives no more writes.
-none_given : (n : ℕ) (s : Bor (List ℕ)) (at : ℕ) → packet_at s.now at ≡ PacketEnd → given_writes n (reader s at) ≡ []
+none_given : (n : ℕ) (s : Bor (List ℕ)) (at : ℕ) → packet_at s.now at ≡ Ok None → given_writes n (reader s at) ≡ []
 unfolding given_writes packet_writes place_after
 none_given zero s at e = refl
 none_given (suc n) s at e = rw e (none_given n s at e)
@@ -223,40 +224,40 @@ module _ (s : Bor (List ℕ)) (allowed : image_length_allowed longest_image (len
   unfolding packet_at ask
   answer_at at l = rw (allowed, le-leb at (length bytes) l) refl
 
-  past_end_law : (at : ℕ) → length bytes < at → packet_at bytes at ≡ PacketEnd
+  past_end_law : (at : ℕ) → length bytes < at → packet_at bytes at ≡ Ok None
   unfolding packet_at ask
   past_end_law at l = rw (allowed, lt-leb at (length bytes) l) refl
 
   -- From a place within the image as many calls as bytes are left come to what all packets from there come to; and where that is the end, they have given all writes.
   pub reads_on : (n at : ℕ) → at ≤ length bytes → length bytes - at ≤ n →
-      (nth_next n (reader s at) ≡ end_of bytes (trace_from bytes at)) × (end_of bytes (trace_from bytes at) ≡ PacketEnd → given_writes n (reader s at) ≡ list_of (trace_from bytes at))
+      (nth_next n (reader s at) ≡ end_of bytes (trace_from bytes at)) × (end_of bytes (trace_from bytes at) ≡ Ok None → given_writes n (reader s at) ≡ list_of (trace_from bytes at))
   unfolding nth_next given_writes place_after
   reads_on zero at l enough = start (stepped bytes at)
     where
       start : Stepped bytes at (trace_from bytes at) →
-          (next_of (reader s at) ≡ end_of bytes (trace_from bytes at)) × (end_of bytes (trace_from bytes at) ≡ PacketEnd → [] ≡ list_of (trace_from bytes at))
-      start (step_refused number place f e) = (answer_at at l ∙ f ∙ sym e, λ q. let z = sym e ∙ q in let w : ◌≡◌ {A = ℕ} 0 1 = cc in absurd (omega arith))
+          (next_of (reader s at) ≡ end_of bytes (trace_from bytes at)) × (end_of bytes (trace_from bytes at) ≡ Ok None → [] ≡ list_of (trace_from bytes at))
+      start (step_refused reason place f e) = (answer_at at l ∙ f ∙ sym e, λ q. let z = sym e ∙ q in cc)
       start (step_last found f i a next e w) = absurd (omega arith)
       start (step_more found f i a b e w) = absurd (omega arith)
   reads_on (suc n) at l enough = step (stepped bytes at) (reads_on n)
     where
       step : Stepped bytes at (trace_from bytes at) →
           ((next : ℕ) → next ≤ length bytes → length bytes - next ≤ n →
-          (nth_next n (reader s next) ≡ end_of bytes (trace_from bytes next)) × (end_of bytes (trace_from bytes next) ≡ PacketEnd → given_writes n (reader s next) ≡ list_of (trace_from bytes next))) →
-          (nth_next n (reader_after (reader s at)) ≡ end_of bytes (trace_from bytes at)) × (end_of bytes (trace_from bytes at) ≡ PacketEnd → packet_writes bytes (next_of (reader s at)) ++ given_writes n (reader_after (reader s at)) ≡ list_of (trace_from bytes at))
-      step (step_refused number place f e) ih =
-          let here : packet_at bytes at ≡ PacketRefused number place = answer_at at l ∙ f in
-          (rw here (stays n s at (PacketRefused number place) here refl) ∙ sym e, λ q. let z = sym e ∙ q in let w : ◌≡◌ {A = ℕ} 0 1 = cc in absurd (omega arith))
+          (nth_next n (reader s next) ≡ end_of bytes (trace_from bytes next)) × (end_of bytes (trace_from bytes next) ≡ Ok None → given_writes n (reader s next) ≡ list_of (trace_from bytes next))) →
+          (nth_next n (reader_after (reader s at)) ≡ end_of bytes (trace_from bytes at)) × (end_of bytes (trace_from bytes at) ≡ Ok None → packet_writes bytes (next_of (reader s at)) ++ given_writes n (reader_after (reader s at)) ≡ list_of (trace_from bytes at))
+      step (step_refused reason place f e) ih =
+          let here : packet_at bytes at ≡ refused reason place = answer_at at l ∙ f in
+          (rw here (stays n s at (refused reason place) here refl) ∙ sym e, λ q. let z = sym e ∙ q in cc)
       step (step_last found f i a next e w) ih =
-          let here : packet_at bytes at ≡ PacketFound found = answer_at at l ∙ f in
-          let end : packet_at bytes found.next ≡ PacketEnd = past_end_law found.next (omega arith) in (
-            rw here (stays n s found.next PacketEnd end refl) ∙ sym e,
-            λ q. rw (here, none_given n s found.next end) (append-nil (packet_writes bytes (PacketFound found))) ∙ sym w,
+          let here : packet_at bytes at ≡ Ok (Some found) = answer_at at l ∙ f in
+          let end : packet_at bytes found.next ≡ Ok None = past_end_law found.next (omega arith) in (
+            rw here (stays n s found.next (Ok None) end refl) ∙ sym e,
+            λ q. rw (here, none_given n s found.next end) (append-nil (packet_writes bytes (Ok (Some found)))) ∙ sym w,
           )
       step (step_more found f i a b e w) ih =
-          let here : packet_at bytes at ≡ PacketFound found = answer_at at l ∙ f in
+          let here : packet_at bytes at ≡ Ok (Some found) = answer_at at l ∙ f in
           let rest = ih found.next b (omega arith) in
-          (rw here rest.0 ∙ sym e, λ q. rw here (ap (λ (k : List Write). packet_writes bytes (PacketFound found) ++ k) (rest.1 (sym e ∙ q))) ∙ sym w)
+          (rw here rest.0 ∙ sym e, λ q. rw here (ap (λ (k : List Write). packet_writes bytes (Ok (Some found)) ++ k) (rest.1 (sym e ∙ q))) ∙ sym w)
 
 -- THE IMAGE READ ALONE.
 
@@ -270,59 +271,59 @@ ends_as image (faulty place) writes wbstar = refl
 ends_as image short writes wbstar = refl
 
 -- The packets from the first place on come to what the image read alone comes to; and that place is within the image.
-at_sync : (image : List ℕ) (sync : ℕ) → find image 0 ≡ SyncAt sync → first_place image ≡ sync + 4
+at_sync : (image : List ℕ) (sync : ℕ) → find image 0 ≡ Some sync → first_place image ≡ sync + 4
 at_sync image sync e = rw (e, first_place) refl
 
-no_sync : (image : List ℕ) → find image 0 ≡ NoSync → first_place image ≡ length image
+no_sync : (image : List ℕ) → find image 0 ≡ None → first_place image ≡ length image
 no_sync image e = rw (e, first_place) refl
 
 first_inside : (image : List ℕ) → first_place image ≤ length image
 first_inside image = go (find image 0) refl
   where
-    go : (f : Found) → find image 0 ≡ f → first_place image ≤ length image
-    go (SyncAt sync) e = rw (at_sync image sync e) (let w : (0 ≤ sync) × (sync + 4 ≤ 0 + length image) = find_within image 0 sync e in omega arith)
-    go NoSync e = rw (no_sync image e) (omega arith)
+    go : (f : Option ℕ) → find image 0 ≡ f → first_place image ≤ length image
+    go (Some sync) e = rw (at_sync image sync e) (let w : (0 ≤ sync) × (sync + 4 ≤ 0 + length image) = find_within image 0 sync e in omega arith)
+    go None e = rw (no_sync image e) (omega arith)
 
-alone_end : (image : List ℕ) → end_of image (trace_from image (first_place image)) ≡ alone_case PacketRefused (λ sync end writes. PacketEnd) (read_alone image)
+alone_end : (image : List ℕ) → end_of image (trace_from image (first_place image)) ≡ alone_case refused (λ sync end writes. Ok None) (read_alone image)
 unfolding end_of trace words search_from read_at jump alone_case finish_answer
 alone_end image = go (find image 0) refl
   where
-    by_finish : (sync : ℕ) → find image 0 ≡ SyncAt sync → (f : Finish) → finish_from image (sync + 4) ≡ f → finish_answer image f ≡ alone_case PacketRefused (λ sync end writes. PacketEnd) (read_alone image)
+    by_finish : (sync : ℕ) → find image 0 ≡ Some sync → (f : Finish) → finish_from image (sync + 4) ≡ f → finish_answer image f ≡ alone_case refused (λ sync end writes. Ok None) (read_alone image)
     by_finish sync e (FinishEnded end writes) g = rw (e, search_from) (rw (g, read_at) refl)
     by_finish sync e (FinishIprog place to) g = rw (e, search_from) (rw (g, read_at) refl)
     by_finish sync e (FinishFault place) g = rw (e, search_from) (rw (g, read_at) refl)
     by_finish sync e FinishShort g = rw (e, search_from) (rw (g, read_at) refl)
 
-    go : (f : Found) → find image 0 ≡ f → end_of image (trace_from image (first_place image)) ≡ alone_case PacketRefused (λ sync end writes. PacketEnd) (read_alone image)
-    go (SyncAt sync) e = rw (at_sync image sync e) (ends_as image (trace_from image (sync + 4)) 0 0 ∙ by_finish sync e (finish_from image (sync + 4)) refl)
-    go NoSync e = rw (no_sync image e, drop-length image) (rw (e, search_from) refl)
+    go : (f : Option ℕ) → find image 0 ≡ f → end_of image (trace_from image (first_place image)) ≡ alone_case refused (λ sync end writes. Ok None) (read_alone image)
+    go (Some sync) e = rw (at_sync image sync e) (ends_as image (trace_from image (sync + 4)) 0 0 ∙ by_finish sync e (finish_from image (sync + 4)) refl)
+    go None e = rw (no_sync image e, drop-length image) (rw (e, search_from) refl)
 
 -- A reader made at an image comes, with as many calls as bytes, to the image's answer: the end where it is accepted, else its refusal.
-comes_to : (s : Bor (List ℕ)) (n : ℕ) → length s.now ≤ n → nth_next n (reader_at s) ≡ on_answer PacketRefused (λ sync end writes. PacketEnd) (image_answer spi s.now)
+comes_to : (s : Bor (List ℕ)) (n : ℕ) → length s.now ≤ n → nth_next n (reader_at s) ≡ on_answer refused (λ sync end writes. Ok None) (image_answer spi s.now)
 unfolding image_answer packet_at ask place_after
-comes_to s n enough = go (image_length_allowed longest_image (length s.now)) refl ∙ sym (by_answer PacketRefused (λ sync end writes. PacketEnd) longest_image s.now)
+comes_to s n enough = go (image_length_allowed longest_image (length s.now)) refl ∙ sym (by_answer refused (λ sync end writes. Ok None) longest_image s.now)
   where
-    yes_asked : image_length_allowed longest_image (length s.now) ≡ true → ask_image spi longest_image PacketRefused (λ sync end writes. PacketEnd) s.now ≡ alone_case PacketRefused (λ sync end writes. PacketEnd) (read_alone s.now)
+    yes_asked : image_length_allowed longest_image (length s.now) ≡ true → ask_image spi longest_image refused (λ sync end writes. Ok None) s.now ≡ alone_case refused (λ sync end writes. Ok None) (read_alone s.now)
     yes_asked e = rw e refl
 
-    no_asked : image_length_allowed longest_image (length s.now) ≡ false → ask_image spi longest_image PacketRefused (λ sync end writes. PacketEnd) s.now ≡ PacketRefused bad_image_length 0
+    no_asked : image_length_allowed longest_image (length s.now) ≡ false → ask_image spi longest_image refused (λ sync end writes. Ok None) s.now ≡ refused BadImageLength 0
     no_asked e = rw e refl
 
-    refuses : image_length_allowed longest_image (length s.now) ≡ false → packet_at s.now (first_place s.now) ≡ PacketRefused bad_image_length 0
+    refuses : image_length_allowed longest_image (length s.now) ≡ false → packet_at s.now (first_place s.now) ≡ refused BadImageLength 0
     refuses e = rw e refl
 
-    go : (b : Bool) → image_length_allowed longest_image (length s.now) ≡ b → nth_next n (reader_at s) ≡ ask_image spi longest_image PacketRefused (λ sync end writes. PacketEnd) s.now
+    go : (b : Bool) → image_length_allowed longest_image (length s.now) ≡ b → nth_next n (reader_at s) ≡ ask_image spi longest_image refused (λ sync end writes. Ok None) s.now
     go true e = (reads_on s e n (first_place s.now) (first_inside s.now) (omega arith)).0 ∙ alone_end s.now ∙ sym (yes_asked e)
-    go false e = stays n s (first_place s.now) (PacketRefused bad_image_length 0) (refuses e) refl ∙ sym (no_asked e)
+    go false e = stays n s (first_place s.now) (refused BadImageLength 0) (refuses e) refl ∙ sym (no_asked e)
 
-reads_accepted : (s : Bor (List ℕ)) (sync end writes n : ℕ) → image_answer spi s.now ≡ Accepted sync end writes → length s.now ≤ n →
+reads_accepted : (s : Bor (List ℕ)) (sync end writes n : ℕ) → image_answer spi s.now ≡ is_accepted sync end writes → length s.now ≤ n →
     given_writes n (reader_at s) ≡ listed s.now (read_alone s.now)
 unfolding image_answer finish_answer
 reads_accepted s sync end writes n e enough =
     let alone = accepted_reads longest_image s.now sync end writes e in
     let parts = alone_parts false s.now 0 sync end writes false alone in
-    let allowed = (asked _ _ _ _ e (λ q. let z : ◌≡◌ {A = ℕ} 0 1 = cc in omega arith)).0 in
-    let ends : end_of s.now (trace_from s.now (sync + 4)) ≡ PacketEnd = ends_as s.now (trace_from s.now (sync + 4)) 0 0 ∙ ap (finish_answer s.now) parts.1 in
+    let allowed = (asked _ _ _ _ e (λ q. cc)).0 in
+    let ends : end_of s.now (trace_from s.now (sync + 4)) ≡ Ok None = ends_as s.now (trace_from s.now (sync + 4)) 0 0 ∙ ap (finish_answer s.now) parts.1 in
     rw (at_sync s.now sync parts.0) ((reads_on s allowed n (sync + 4) (accepted_sync longest_image s.now sync end writes e) (omega arith)).1 ends)
     ∙ sym (accepted_lists s.now sync end writes e)
 
@@ -331,5 +332,5 @@ pub reader_reads : ReaderReads
 unfolding on_answer
 reader_reads s = record {
   accepted = λ sync end writes n e enough. (reads_accepted s sync end writes n e enough, comes_to s n enough ∙ rw e refl);
-  refused = λ number place n e enough. comes_to s n enough ∙ rw e refl;
+  refused = λ reason place n e enough. comes_to s n enough ∙ rw e refl;
 }

@@ -11,7 +11,7 @@ ghost use Rattle.packets.specs.Trace.{payload, trace, trace_from};
 ghost use Rattle.imagereader.specs.Imagereader.{packet_numbers, first_packet, packet_at, first_place, reader_at, next_of, reader_after};
 ghost use Rattle.imagereader.specs.Internal.{stop_answer, end_answer};
 
-use base::min;
+use std::cmp::min;
 use base::refusal::{Reason, Refusal, ask};
 use framing::search::find_sync;
 use framing::words::{word_at, words_from};
@@ -39,6 +39,7 @@ pub struct Reader<'a> {
 }
 
 // The packet that ends with the data word after `run` more, one that does not let the reading go on.
+#[tactic(auto, unfolding(crate::specs::Internal::end_answer), using(framing::proofs::Laws::word_after))]
 fn ended_packet(image: &[u8], register: u32, first: usize, run: usize) -> Result<Option<Packet>, Refusal>
     requires { first + 4 * run + 4 ≤ length image.now }
     ensures { result ≡ end_answer image.now register first run (effect_of register (get_or (words (drop first image.now)) run 0)) }
@@ -61,6 +62,7 @@ fn ended_packet(image: &[u8], register: u32, first: usize, run: usize) -> Result
 }
 
 // The packet whose first data word is at `first`, with `left` more behind it.
+#[tactic(auto, using(crate::proofs::PacketLaws::packet_whole, crate::proofs::PacketLaws::packet_short, crate::proofs::PacketLaws::packet_ended, framing::proofs::Laws::room))]
 fn whole_packet(image: &[u8], register: u32, first: usize, left: usize) -> Result<Option<Packet>, Refusal>
     requires { first + 4 ≤ length image.now }
     ensures { result ≡ first_packet image.now (trace (words (drop first image.now)) first (payload register left)) }
@@ -86,11 +88,11 @@ fn whole_packet(image: &[u8], register: u32, first: usize, left: usize) -> Resul
 }
 
 // What a scanner for the next write is at where there is none.
+#[tactic(auto, unfolding(crate::specs::Internal::stop_by))]
 fn stop_answer(image: &[u8], w: Scanner) -> Result<Option<Packet>, Refusal>
     ensures { result ≡ stop_answer image.now w }
 {
-    let status = w.status;
-    match status {
+    match w.status {
         Status::Fault => Err(Refusal {
             reason: Reason::ImageFault,
             place: w.at,
@@ -111,18 +113,19 @@ fn stop_answer(image: &[u8], w: Scanner) -> Result<Option<Packet>, Refusal>
 }
 
 // The first packet with data words from a place on.
+#[tactic(auto, unfolding(scanner::specs::Scan::InBoundsBy), using(crate::proofs::PacketLaws::scan_reached, crate::proofs::PacketLaws::scan_stopped))]
 fn first_packet(image: &[u8], at: usize) -> Result<Option<Packet>, Refusal>
     ensures { result ≡ first_packet image.now (trace_from image.now at) }
 {
     let w = scan(image, at, 0);
-    let status = w.status;
-    let Status::Reached = status else {
+    if w.status != Status::Reached {
         return stop_answer(image, w);
-    };
+    }
     whole_packet(image, w.register, w.at, w.left)
 }
 
 // What is at a place of an image: the end of the packets, or the first packet from there; or refusal 4, 5 or 6.
+#[tactic(auto, unfolding(crate::specs::Imagereader::packet_at, base::specs::Question::ask))]
 fn packet_at(image: &[u8], at: usize) -> Result<Option<Packet>, Refusal>
     ensures { result ≡ packet_at image.now at }
 {
@@ -134,6 +137,7 @@ fn packet_at(image: &[u8], at: usize) -> Result<Option<Packet>, Refusal>
 }
 
 // Where the first packet of an image begins: after its sync word, or where its bytes run out.
+#[tactic(auto, using(framing::proofs::Laws::find_within))]
 fn first_place(image: &[u8]) -> usize
     ensures { result ≡ first_place image.now }
 {
@@ -153,6 +157,7 @@ impl<'a> Reader<'a> {
     }
 
     // The next packet, and the reader moves past it; or that all were given, or refusal 4, 5 or 6, and the reader stays.
+    #[tactic(auto, unfolding(crate::specs::Imagereader::place_after), using(base::proofs::Laws::gives))]
     pub fn next<'s>(&'s mut self) -> Result<Option<Packet>, Refusal>
         ensures { Gives packet_numbers result (next_of self.old) × (self.new ≡ reader_after self.old) }
     {
