@@ -32,6 +32,10 @@ use Rattle.imagereader.specs.Internal.{end_answer}
 use Rattle.imagereader.specs.Types.{Reason, BadImageLength, ImageFault, ImageJumps, Refusal, Effect, GoesOn, Desync, EffectIprog, Write, Finish, FinishEnded, FinishIprog, FinishFault, FinishShort, Packet, Reader}
 use Rattle.imagereader.proofs.PacketLaws.{finish_answer, FirstData, first_data, packet_whole, packet_short, packet_ended}
 
+-- what is given where an image is accepted and all its packets were given
+abbrev all_given : ℕ → ℕ → ℕ → Result (Option Packet) Refusal
+all_given sync end writes = Ok None
+
 -- What all packets of a trace come to: the end, or the refusal.
 unfoldable pub end_of : List ℕ → Trace → Result (Option Packet) Refusal
 end_of image (wrote write left more) = end_of image more
@@ -140,7 +144,7 @@ module _ (image : List ℕ) (at register first left : ℕ) (behind : at ≤ firs
   unfolding mode_of trace end_of
   short_step run r e a =
       let out : drop run ws ≡ [] = rw e (drop-length ws) in
-      step_refused image_fault (length image) (packet_short image register first left some_word run e a r.plain)
+      step_refused ImageFault (length image) (packet_short image register first left some_word run e a r.plain)
       (end_after image register run ws (suc left) first r.within r.inside r.plain ∙ rw out refl)
 
   -- a word ends or jumps
@@ -159,7 +163,7 @@ module _ (image : List ℕ) (at register first left : ℕ) (behind : at ≤ firs
   end_step run r a b EffectIprog e =
       let m : suc left - run ≡ suc (left - run) = omega arith in
       let tail = trace_iprog (get_or ws run 0) (drop (suc run) ws) (first + 4 * run) register (left - run) e in
-      step_refused image_jumps (first + 4 * run) (packet_ended image register first left some_word run a b r.plain (r.stops (omega arith) b) ∙ rw e refl)
+      step_refused ImageJumps (first + 4 * run) (packet_ended image register first left some_word run a b r.plain (r.stops (omega arith) b) ∙ rw e refl)
       (end_after image register run ws (suc left) first r.within r.inside r.plain ∙ rw (m, drop-cons ws run 0 b) (ap (end_of image) tail))
 
   packet_step : Stepped image at (trace ws first (payload register left))
@@ -182,8 +186,8 @@ stepped image at = go (first_data image (words (drop at image)) at (header other
   where
     go : FirstData image at (trace_from image at) ⊎ (((place : ℕ) × (trace_from image at ≡ faulty place)) ⊎ (trace_from image at ≡ short)) → Stepped image at (trace_from image at)
     go (inl d) = rw d.same (packet_step image at d.register d.first d.left d.later d.inside)
-    go (inr (inl f)) = step_refused image_fault f.0 (rw f.1 refl) (rw f.1 refl)
-    go (inr (inr f)) = step_refused image_fault (length image) (rw f refl) (rw f refl)
+    go (inr (inl f)) = step_refused ImageFault f.0 (rw f.1 refl) (rw f.1 refl)
+    go (inr (inr f)) = step_refused ImageFault (length image) (rw f refl) (rw f refl)
 
 -- The written data words of a packet lie within the image.
 pub found_inside : PacketsInside
@@ -284,35 +288,35 @@ first_inside image = go (find image 0) refl
     go (Some sync) e = rw (at_sync image sync e) (let w : (0 ≤ sync) × (sync + 4 ≤ 0 + length image) = find_within image 0 sync e in omega arith)
     go None e = rw (no_sync image e) (omega arith)
 
-alone_end : (image : List ℕ) → end_of image (trace_from image (first_place image)) ≡ alone_case refused (λ sync end writes. Ok None) (read_alone image)
+alone_end : (image : List ℕ) → end_of image (trace_from image (first_place image)) ≡ alone_case refused all_given (read_alone image)
 unfolding end_of trace words search_from read_at jump alone_case finish_answer
 alone_end image = go (find image 0) refl
   where
-    by_finish : (sync : ℕ) → find image 0 ≡ Some sync → (f : Finish) → finish_from image (sync + 4) ≡ f → finish_answer image f ≡ alone_case refused (λ sync end writes. Ok None) (read_alone image)
+    by_finish : (sync : ℕ) → find image 0 ≡ Some sync → (f : Finish) → finish_from image (sync + 4) ≡ f → finish_answer image f ≡ alone_case refused all_given (read_alone image)
     by_finish sync e (FinishEnded end writes) g = rw (e, search_from) (rw (g, read_at) refl)
     by_finish sync e (FinishIprog place to) g = rw (e, search_from) (rw (g, read_at) refl)
     by_finish sync e (FinishFault place) g = rw (e, search_from) (rw (g, read_at) refl)
     by_finish sync e FinishShort g = rw (e, search_from) (rw (g, read_at) refl)
 
-    go : (f : Option ℕ) → find image 0 ≡ f → end_of image (trace_from image (first_place image)) ≡ alone_case refused (λ sync end writes. Ok None) (read_alone image)
+    go : (f : Option ℕ) → find image 0 ≡ f → end_of image (trace_from image (first_place image)) ≡ alone_case refused all_given (read_alone image)
     go (Some sync) e = rw (at_sync image sync e) (ends_as image (trace_from image (sync + 4)) 0 0 ∙ by_finish sync e (finish_from image (sync + 4)) refl)
     go None e = rw (no_sync image e, drop-length image) (rw (e, search_from) refl)
 
 -- A reader made at an image comes, with as many calls as bytes, to the image's answer: the end where it is accepted, else its refusal.
-comes_to : (s : Bor (List ℕ)) (n : ℕ) → length s.now ≤ n → nth_next n (reader_at s) ≡ on_answer refused (λ sync end writes. Ok None) (image_answer spi s.now)
+comes_to : (s : Bor (List ℕ)) (n : ℕ) → length s.now ≤ n → nth_next n (reader_at s) ≡ on_answer refused all_given (image_answer spi s.now)
 unfolding image_answer packet_at ask place_after
-comes_to s n enough = go (image_length_allowed longest_image (length s.now)) refl ∙ sym (by_answer refused (λ sync end writes. Ok None) longest_image s.now)
+comes_to s n enough = go (image_length_allowed longest_image (length s.now)) refl ∙ sym (by_answer refused all_given longest_image s.now)
   where
-    yes_asked : image_length_allowed longest_image (length s.now) ≡ true → ask_image spi longest_image refused (λ sync end writes. Ok None) s.now ≡ alone_case refused (λ sync end writes. Ok None) (read_alone s.now)
+    yes_asked : image_length_allowed longest_image (length s.now) ≡ true → ask_image spi longest_image refused all_given s.now ≡ alone_case refused all_given (read_alone s.now)
     yes_asked e = rw e refl
 
-    no_asked : image_length_allowed longest_image (length s.now) ≡ false → ask_image spi longest_image refused (λ sync end writes. Ok None) s.now ≡ refused BadImageLength 0
+    no_asked : image_length_allowed longest_image (length s.now) ≡ false → ask_image spi longest_image refused all_given s.now ≡ refused BadImageLength 0
     no_asked e = rw e refl
 
     refuses : image_length_allowed longest_image (length s.now) ≡ false → packet_at s.now (first_place s.now) ≡ refused BadImageLength 0
     refuses e = rw e refl
 
-    go : (b : Bool) → image_length_allowed longest_image (length s.now) ≡ b → nth_next n (reader_at s) ≡ ask_image spi longest_image refused (λ sync end writes. Ok None) s.now
+    go : (b : Bool) → image_length_allowed longest_image (length s.now) ≡ b → nth_next n (reader_at s) ≡ ask_image spi longest_image refused all_given s.now
     go true e = (reads_on s e n (first_place s.now) (first_inside s.now) (omega arith)).0 ∙ alone_end s.now ∙ sym (yes_asked e)
     go false e = stays n s (first_place s.now) (refused BadImageLength 0) (refuses e) refl ∙ sym (no_asked e)
 

@@ -62,7 +62,7 @@ fn ended_packet(image: &[u8], register: u32, first: usize, run: usize) -> Result
 }
 
 // The packet whose first data word is at `first`, with `left` more behind it.
-#[tactic(auto, using(crate::proofs::PacketLaws::packet_whole, crate::proofs::PacketLaws::packet_short, crate::proofs::PacketLaws::packet_ended, framing::proofs::Laws::room))]
+#[tactic(auto, using(crate::proofs::PacketLaws::packet_whole, crate::proofs::PacketLaws::packet_short, framing::proofs::Laws::room))]
 fn whole_packet(image: &[u8], register: u32, first: usize, left: usize) -> Result<Option<Packet>, Refusal>
     requires { first + 4 ≤ length image.now }
     ensures { result ≡ first_packet image.now (trace (words (drop first image.now)) first (payload register left)) }
