@@ -13,6 +13,7 @@ use mcsline::line::{Line, parse};
 
 // Is this the data record that comes next? `next` data bytes came before it, and `upper` says whether the line before is of
 // type 04. The line is `long` characters long.
+#[tactic(auto, unfolding(canonical::specs::Pass::data_fits, base::specs::Question::ask))]
 fn data_fits(upper: bool, next: usize, address: u32, count: usize, long: usize) -> bool
     ensures { result ≡ data_fits upper next address count long }
 {
@@ -32,6 +33,7 @@ fn data_fits(upper: bool, next: usize, address: u32, count: usize, long: usize) 
 }
 
 // Is this a type 04 record that may come next? Whether it comes at a multiple of 65,536 is asked of the line after it.
+#[tactic(auto, unfolding(canonical::specs::Pass::upper_fits, base::specs::Question::ask))]
 fn upper_fits(upper: bool, next: usize, half: u32, long: usize) -> bool
     ensures { result ≡ upper_fits upper next half long }
 {
@@ -45,6 +47,7 @@ fn upper_fits(upper: bool, next: usize, half: u32, long: usize) -> bool
 }
 
 // May the end record come next?
+#[tactic(auto, unfolding(canonical::specs::Pass::end_fits, base::specs::Question::ask))]
 fn end_fits(upper: bool, next: usize, long: usize) -> bool
     ensures { result ≡ end_fits upper next long }
 {
