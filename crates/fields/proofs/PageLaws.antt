@@ -1,10 +1,10 @@
 -- Laws of text put on a page, one piece after the other.
 use Prim.Native.Nat.{ℕ, ◌+◌, ◌≤◌}
 use mathlib.Core.Path.{◌≡◌, refl, sym, ap, ap₂, ◌∙◌}
-use mathlib.Core.List.{List, ◌++◌}
+use mathlib.Core.List.{List, [], ◌++◌}
 use native.Mathlib.Omega.{arith}
 use lib.ListN.{length, length-append}
-use lib.Seq.{paste, length-paste}
+use lib.Seq.{paste, paste-zero, length-paste}
 use Rattle.base.specs.Output.{front_filled}
 use Rattle.fields.specs.Page.{Wrote}
 use Rattle.fields.specs.declared.Page.{Page}
@@ -14,6 +14,10 @@ use Rattle.fields.proofs.PutLaws.{Put, put_front, paste_paste}
 pub wrote_is : (first last : Page) (text : List ℕ) → first.at + length text ≤ length first.out.now → last.at ≡ first.at + length text → last.out.now ≡ paste first.out.now first.at text (length text) → Wrote first last text
 wrote_is first last text room place is =
     record { room = room; place = place; long = ap (λ (d : List ℕ). length d) is ∙ length-paste first.out.now first.at text (length text) room (omega arith); is = is }
+
+-- Nothing to put leaves a page as it is.
+pub wrote_nothing : (page : Page) → page.at ≤ length page.out.now → Wrote page page []
+wrote_nothing page within = wrote_is page page [] (omega arith) (omega arith) (paste-zero page.out.now page.at [])
 
 -- A text and then another are the two of them.
 pub wrote_then : {first mid last : Page} {s t : List ℕ} → Wrote first mid s → Wrote mid last t → Wrote first last (s ++ t)

@@ -55,6 +55,7 @@ fn put_writes(page: &mut Page<'_>, chip: &[u8], cursor: Cursor)
 }
 
 // The place after the last word, and the number of writes.
+#[tactic(auto, using(fields::proofs::Laws::length_hexadecimal, reportlines::proofs::Laws::length_end))]
 fn put_end(page: &mut Page<'_>, end: usize, writes: usize)
     requires { page.old.at + length (end_line end writes) ≤ length page.old.out.now }
     ensures same { page.new.out.ghost_name ≡ page.old.out.ghost_name }
@@ -68,6 +69,7 @@ fn put_end(page: &mut Page<'_>, end: usize, writes: usize)
 }
 
 // All of it.
+#[tactic(auto, using(reportlines::proofs::Laws::length_loaded, reportlines::proofs::Laws::length_writes))]
 pub fn put_report(page: &mut Page<'_>, chip: &[u8], cursor: Cursor, jumped: bool, end: usize, writes: usize)
     requires { page.old.at + (14 + 27 * length (remaining_writes chip.now cursor) + length (end_line end writes)) ≤ length page.old.out.now }
     ensures same { page.new.out.ghost_name ≡ page.old.out.ghost_name }

@@ -3,10 +3,10 @@ use Rattle.fields.specs.Fields.{ascii}
 use Rattle.reportlines.specs.Reportlines.{loaded_line}
 use Rattle.loadlines.proofs.put_loaded.Goals as goal
 
-pub returns-then-jumped : goal.returns-then-jumped
+pub returns-then-jumped-clause-wrote : goal.returns-then-jumped-clause-wrote
 unfolding loaded_line ascii
-returns-then-jumped c = rw c.if-jumped.true c.put.ensures
+returns-then-jumped-clause-wrote c = rw c.if-jumped.true c.put.ensures.wrote
 
-pub returns : goal.returns
+pub returns-else-jumped-clause-wrote : goal.returns-else-jumped-clause-wrote
 unfolding loaded_line ascii
-returns c = rw c.if-jumped.false c.put-2.ensures
+returns-else-jumped-clause-wrote c = rw c.if-jumped.false c.put-else-jumped.ensures.wrote
