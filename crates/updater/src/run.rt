@@ -155,20 +155,22 @@ impl State {
     ) -> Result<Reply, RefusedReply>
         ensures { Gives reply_numbers result (reply_answer spi self image.now reply_kind bytes.now) }
     {
-        let run = self
-            .ask_running(image.len())
-            .map_err(|refusal| RefusedReply {
+        match self.ask_running(image.len()) {
+            Ok(run) => {
+                let judgement = judge(
+                    self.layout,
+                    image,
+                    self.phase,
+                    self.index,
+                    reply_kind,
+                    bytes,
+                );
+                run.reply_judged(judgement)
+            }
+            Err(refusal) => Err(RefusedReply {
                 refusal,
                 state: self,
-            })?;
-        let judgement = judge(
-            self.layout,
-            image,
-            self.phase,
-            self.index,
-            reply_kind,
-            bytes,
-        );
-        run.reply_judged(judgement)
+            }),
+        }
     }
 }

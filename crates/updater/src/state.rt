@@ -44,11 +44,14 @@ fn phase_consistent(state: State) -> bool
 }
 
 // Question 6, for an image of `lent` bytes.
-#[tactic(auto, unfolding(kind::proofs::Laws::on_layout, base::specs::Question::ask), using(crate::proofs::CallLaws::fits_by))]
+#[tactic(auto, unfolding(base::specs::Question::ask), using(crate::proofs::CallLaws::fits_allowed, crate::proofs::CallLaws::fits_refused))]
 pub(crate) fn fits_image(state: State, lent: usize) -> bool
     ensures { result ≡ fits state lent }
 {
-    state.layout.check_with_image(state.image_length).is_ok() && phase_consistent(state) && state.image_length == lent
+    if state.layout.check_with_image(state.image_length).is_err() {
+        return false;
+    }
+    phase_consistent(state) && state.image_length == lent
 }
 
 // A state that fits, of a run that goes on: questions 6 and 7 with a yes.
