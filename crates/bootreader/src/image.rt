@@ -51,7 +51,10 @@ fn accept(outcome: Outcome) -> Result<Accepted, Refusal>
 pub fn check_within(image: &[u8], longest: usize) -> Result<Accepted, Refusal>
     ensures { Gives image_numbers result (image_within spi longest image.now) }
 {
-    ask(image_length_allowed(longest, image.len()), Reason::BadImageLength)?;
+    ask(
+        image_length_allowed(longest, image.len()),
+        Reason::BadImageLength,
+    )?;
     accept(read_alone(image))
 }
 

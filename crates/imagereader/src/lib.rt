@@ -11,7 +11,6 @@ ghost use Rattle.packets.specs.Trace.{payload, trace, trace_from};
 ghost use Rattle.imagereader.specs.Imagereader.{packet_numbers, first_packet, packet_at, first_place, reader_at, next_of, reader_after};
 ghost use Rattle.imagereader.specs.Internal.{stop_answer, end_answer};
 
-use std::cmp::min;
 use base::refusal::{Reason, Refusal, ask};
 use framing::search::find_sync;
 use framing::words::{word_at, words_from};
@@ -19,6 +18,7 @@ use kind::layout::image_length_allowed;
 use kind::spi::Spi;
 use packets::header::{Effect, effect_of};
 use scanner::scan::{Scanner, Status, count_plain_words};
+use std::cmp::min;
 use writes::reading::scan;
 
 // A packet with data words: its register, the place of its first data word, how many of its data words
@@ -40,7 +40,12 @@ pub struct Reader<'a> {
 
 // The packet that ends with the data word after `run` more, one that does not let the reading go on.
 #[tactic(auto, unfolding(crate::specs::Internal::end_answer), using(framing::proofs::Laws::word_after))]
-fn ended_packet(image: &[u8], register: u32, first: usize, run: usize) -> Result<Option<Packet>, Refusal>
+fn ended_packet(
+    image: &[u8],
+    register: u32,
+    first: usize,
+    run: usize,
+) -> Result<Option<Packet>, Refusal>
     requires { first + 4 * run + 4 ≤ length image.now }
     ensures { result ≡ end_answer image.now register first run (effect_of register (get_or (words (drop first image.now)) run 0)) }
 {
@@ -63,7 +68,12 @@ fn ended_packet(image: &[u8], register: u32, first: usize, run: usize) -> Result
 
 // The packet whose first data word is at `first`, with `left` more behind it.
 #[tactic(auto, using(crate::proofs::PacketLaws::packet_whole, crate::proofs::PacketLaws::packet_short, framing::proofs::Laws::room))]
-fn whole_packet(image: &[u8], register: u32, first: usize, left: usize) -> Result<Option<Packet>, Refusal>
+fn whole_packet(
+    image: &[u8],
+    register: u32,
+    first: usize,
+    left: usize,
+) -> Result<Option<Packet>, Refusal>
     requires { first + 4 ≤ length image.now }
     ensures { result ≡ first_packet image.now (trace (words (drop first image.now)) first (payload register left)) }
 {
@@ -129,7 +139,10 @@ fn first_packet(image: &[u8], at: usize) -> Result<Option<Packet>, Refusal>
 fn packet_at(image: &[u8], at: usize) -> Result<Option<Packet>, Refusal>
     ensures { result ≡ packet_at image.now at }
 {
-    ask(image_length_allowed(Spi::LONGEST, image.len()), Reason::BadImageLength)?;
+    ask(
+        image_length_allowed(Spi::LONGEST, image.len()),
+        Reason::BadImageLength,
+    )?;
     if image.len() < at {
         return Ok(None);
     }
