@@ -1,23 +1,24 @@
 -- A built chip is well-formed, its switch is OFF, and it loads the golden image it was given.
 use Prim.Native.Nat.{ℕ, ◌+◌, ◌-◌, ◌<◌, ◌≤◌}
-use mathlib.Core.Path.{◌≡◌, refl, sym, ap, ◌∙◌}
+use mathlib.Core.Path.{◌≡◌, refl, sym, ap, subst, ◌∙◌}
 use mathlib.Core.Bool.{Bool, true, false}
 use mathlib.Core.List.{List, ◌++◌}
 use native.Mathlib.Nat.{zero-add}
 use native.Mathlib.Omega.{arith}
-use borrow.Author.Tests.{leb-true, le-leb, lt-leb, ltb-true, ltb-false}
+use borrow.Author.Tests.{leb-true, ltb-true, ltb-false}
 use lib.Dec.{leb, ltb}
 use lib.ListN.{length, get_or, take, drop, length-append, get_or-replicate, get_or-eq_default}
 use lib.Seq.{take_at}
+use Rattle.std.specs.Prelude.{Result, Ok, Err}
 use Rattle.base.specs.Question.{ask}
-use Rattle.base.specs.Refusal.{no_room}
+use Rattle.base.specs.Refusal.{number_of, refused}
 use Rattle.base.specs.Output.{front_filled}
 use Rattle.configreader.specs.Configreader.{read_alone, listed}
 use Rattle.packets.specs.Trace.{contents}
 use Rattle.kind.specs.Layout.{chip_length_allowed, segment, switch_at, golden_at, update_place_allowed, update_length_allowed, layout_answer}
-use Rattle.bootreader.specs.Image.{image_within}
-use Rattle.builder.specs.Types.{Loaded, ImageAnswer, Accepted, ImageRefused, Layout, LayoutAnswer, LayoutAllowed, LayoutRefused, BuildAnswer, Built, BuildRefused}
-use Rattle.base.proofs.Laws.{asked, front_fits}
+use Rattle.bootreader.specs.Image.{image_within, accepted}
+use Rattle.builder.specs.Types.{Loaded, Reason, NoRoom, Refusal, Layout, Accepted}
+use Rattle.base.proofs.Laws.{asked_ok, asked_err, front_fits}
 use Rattle.kind.proofs.Laws.{chip_length_range, update_place_range, on_layout, by_layout, allowed_asks}
 use Rattle.bootreader.proofs.Laws.{on_answer, by_answer, accepted_length, image_refusals}
 use Rattle.configreader.proofs.Laws.{ends_within, local}
@@ -36,76 +37,87 @@ pub record BuildQuestions (layout : Layout) (golden : List ℕ) (room : ℕ) : T
   pub sync : ℕ
   pub end : ℕ
   pub writes : ℕ
-  pub accepted : image_within spi (layout.update_place - golden_at) golden ≡ Accepted sync end writes
+  pub read : image_within spi (layout.update_place - golden_at) golden ≡ accepted sync end writes
   pub fits : layout.chip_length ≤ room
 
-refused_built : (number place : ℕ) → BuildRefused number place ≡ Built → ⊥
-refused_built number place e = let z : ◌≡◌ {A = ℕ} 0 1 = cc in omega arith
+abbrev pub Answer : Type 0
+Answer = Result (Unit {0}) Refusal
+
+abbrev pub built : Answer
+built = Ok tt
+
+abbrev no : Reason → ℕ → Answer
+no = refused
+
+refused_built : (r : Refusal) → ◌≡◌ {A = Answer} (Err r) built → ⊥
+refused_built r e = let z : ◌≡◌ {A = ℕ} 0 1 = cc in omega arith
 
 -- What the builder answers for an allowed layout goes by the image's answer and the room.
 module _ (layout : Layout) (golden : List ℕ) (room : ℕ) where
-  on_fit : ℕ → ℕ → ℕ → BuildAnswer
-  on_fit sync end writes = ask (leb layout.chip_length room) (BuildRefused no_room 0) Built
+  on_fit : ℕ → ℕ → ℕ → Answer
+  on_fit sync end writes = ask (leb layout.chip_length room) (no NoRoom 0) built
 
-  by_image_law : (a : ImageAnswer) → image_within spi (layout.update_place - golden_at) golden ≡ a → golden_answer spi layout golden room ≡ on_answer BuildRefused on_fit a
+  by_image_law : (a : Result Accepted Refusal) → image_within spi (layout.update_place - golden_at) golden ≡ a → golden_answer spi layout golden room ≡ on_answer no on_fit a
   unfolding golden_answer on_fit
-  by_image_law a q = sym (by_answer BuildRefused on_fit (layout.update_place - golden_at) golden) ∙ ap (on_answer BuildRefused on_fit) q
+  by_image_law a q = sym (by_answer no on_fit (layout.update_place - golden_at) golden) ∙ ap (on_answer no on_fit) q
 
-  pub golden_refused : (number place : ℕ) → image_within spi (layout.update_place - golden_at) golden ≡ ImageRefused number place → golden_answer spi layout golden room ≡ BuildRefused number place
-  unfolding on_answer
-  golden_refused number place q = by_image_law (ImageRefused number place) q
+  by_layout_law : (l : Answer) → layout_answer layout ≡ l → on_layout no (golden_answer spi layout golden room) l ≡ build_answer spi layout golden room
+  unfolding build_answer
+  by_layout_law l p = ap (on_layout no (golden_answer spi layout golden room)) (sym p) ∙ by_layout no (golden_answer spi layout golden room) layout
 
-  pub golden_small : (sync end writes : ℕ) → image_within spi (layout.update_place - golden_at) golden ≡ Accepted sync end writes → room < layout.chip_length → golden_answer spi layout golden room ≡ BuildRefused no_room 0
-  unfolding on_answer on_fit ask
-  golden_small sync end writes q l = by_image_law (Accepted sync end writes) q ∙ rw (lt-leb layout.chip_length room l) refl
+  -- A layout that is refused is refused so;
+  pub layout_refused : (r : Refusal) → layout_answer layout ≡ Err r → Err r ≡ build_answer spi layout golden room
+  unfolding on_layout
+  layout_refused r p = by_layout_law (Err r) p
 
-  pub golden_built : (sync end writes : ℕ) → image_within spi (layout.update_place - golden_at) golden ≡ Accepted sync end writes → layout.chip_length ≤ room → golden_answer spi layout golden room ≡ Built
-  unfolding on_answer on_fit ask
-  golden_built sync end writes q l = by_image_law (Accepted sync end writes) q ∙ rw (le-leb layout.chip_length room l) refl
+  -- of one that is allowed, the image decides, and then the room.
+  module _ (p : layout_answer layout ≡ built) where
+    allowed_law : golden_answer spi layout golden room ≡ build_answer spi layout golden room
+    unfolding on_layout
+    allowed_law = by_layout_law built p
 
-  pub questions : build_answer spi layout golden room ≡ Built → BuildQuestions layout golden room
-  unfolding build_answer on_answer on_fit on_layout
+    pub golden_refused : (r : Refusal) → image_within spi (layout.update_place - golden_at) golden ≡ Err r → Err r ≡ build_answer spi layout golden room
+    unfolding on_answer
+    golden_refused r q = sym (by_image_law (Err r) q) ∙ allowed_law
+
+    pub golden_accepted : (a : Accepted) → image_within spi (layout.update_place - golden_at) golden ≡ Ok a → ask (leb layout.chip_length room) (no NoRoom 0) built ≡ build_answer spi layout golden room
+    unfolding on_answer on_fit
+    golden_accepted a q = sym (by_image_law (Ok a) q) ∙ allowed_law
+
+  pub questions : build_answer spi layout golden room ≡ built → BuildQuestions layout golden room
   questions e = go (layout_answer layout) refl (image_within spi (layout.update_place - golden_at) golden) refl
     where
-      answer : on_layout BuildRefused (golden_answer spi layout golden room) (layout_answer layout) ≡ Built
-      answer = by_layout BuildRefused (golden_answer spi layout golden room) layout ∙ e
-
-      go : (l : LayoutAnswer) → layout_answer layout ≡ l → (a : ImageAnswer) → image_within spi (layout.update_place - golden_at) golden ≡ a → BuildQuestions layout golden room
-      go (LayoutRefused number place) p a q = absurd (refused_built number place (rw p at answer))
-      go LayoutAllowed p (ImageRefused number place) q = absurd (refused_built number place (sym (by_image_law (ImageRefused number place) q) ∙ rw p at answer))
-      go LayoutAllowed p (Accepted sync end writes) q =
+      go : (l : Answer) → layout_answer layout ≡ l → (a : Result Accepted Refusal) → image_within spi (layout.update_place - golden_at) golden ≡ a → BuildQuestions layout golden room
+      go (Err r) p a q = absurd (refused_built r (layout_refused r p ∙ e))
+      go (Ok allowed) p (Err r) q = absurd (refused_built r (golden_refused p r q ∙ e))
+      go (Ok allowed) p (Ok a) q =
           let asks = allowed_asks layout p in
           record {
             long = asks.0;
             starts = asks.1;
             spans = asks.2;
-            sync = sync;
-            end = end;
-            writes = writes;
-            accepted = q;
-            fits = leb-true _ _ (asked _ _ _ _ (sym (by_image_law (Accepted sync end writes) q) ∙ rw p at answer) (refused_built no_room 0)).0;
+            sync = a.sync;
+            end = a.end;
+            writes = a.writes;
+            read = q;
+            fits = leb-true _ _ (asked_ok _ NoRoom (golden_accepted p a q ∙ e));
           }
 
+abbrev Told : List ℕ → Refusal → Type 0
+Told golden r = (number_of r.reason ≤ number_of NoRoom) × (r.place ≤ length golden)
+
 -- With a layout that is allowed, the builder refuses with a number of the image, at a place of it, or with 19.
-pub allowed_refusals : (layout : Layout) (golden : List ℕ) (room number place : ℕ) → layout_answer layout ≡ LayoutAllowed → build_answer spi layout golden room ≡ BuildRefused number place → (number ≤ no_room) × (place ≤ length golden)
-unfolding build_answer on_answer on_fit on_layout ask
-allowed_refusals layout golden room number place allowed e = go (image_within spi (layout.update_place - golden_at) golden) refl
+pub allowed_refusals : (layout : Layout) (golden : List ℕ) (room : ℕ) (reason : Reason) (place : ℕ) → layout_answer layout ≡ Ok tt → build_answer spi layout golden room ≡ refused reason place → (number_of reason ≤ number_of NoRoom) × (place ≤ length golden)
+allowed_refusals layout golden room reason place allowed e = go (image_within spi (layout.update_place - golden_at) golden) refl
   where
-    answer : golden_answer spi layout golden room ≡ BuildRefused number place
-    answer = rw allowed at (by_layout BuildRefused (golden_answer spi layout golden room) layout ∙ e)
+    small : (r : Refusal) → ◌≡◌ {A = Answer} (Err r) (no reason place) → Told golden r → Told golden (record { reason = reason; place = place })
+    small r q h = let same : r ≡ record { reason = reason; place = place } = cc in subst (Told golden) same h
 
-    fits : (b : Bool) → ask b (BuildRefused no_room 0) Built ≡ BuildRefused number place → (number ≤ no_room) × (place ≤ length golden)
-    fits false q = let n : no_room ≡ number = cc in let p : 0 ≡ place = cc in (omega arith, omega arith)
-    fits true q = absurd (refused_built number place (sym q))
-
-    go : (a : ImageAnswer) → image_within spi (layout.update_place - golden_at) golden ≡ a → (number ≤ no_room) × (place ≤ length golden)
-    go (ImageRefused n p) q =
-        let same = sym (golden_refused layout golden room n p q) ∙ answer in
-        let r = image_refusals (layout.update_place - golden_at) golden n p q in
-        let a : n ≡ number = cc in
-        let b : p ≡ place = cc in
-        (omega arith, omega arith)
-    go (Accepted sync end writes) q = fits (leb layout.chip_length room) (sym (by_image_law layout golden room (Accepted sync end writes) q) ∙ answer)
+    go : (a : Result Accepted Refusal) → image_within spi (layout.update_place - golden_at) golden ≡ a → (number_of reason ≤ number_of NoRoom) × (place ≤ length golden)
+    go (Err r) q =
+        let n = image_refusals (layout.update_place - golden_at) golden r.reason r.place q in
+        small r (golden_refused layout golden room allowed r q ∙ e) (omega arith, n.2)
+    go (Ok a) q = let no = asked_err _ NoRoom _ (golden_accepted layout golden room allowed a q ∙ e) in subst (Told golden) no.1 (omega arith, omega arith)
 
 pub words_length : (update_place : ℕ) → length (spi_warm_boot update_place) ≡ 20
 unfolding spi_warm_boot
@@ -176,9 +188,9 @@ module _ (layout : Layout) (golden : List ℕ) (fits : golden_at + length golden
   pub built_golden : (i : ℕ) → i < length golden → get_or (built_chip spi layout golden) (golden_at + i) 0 ≡ get_or golden i 0
   built_golden i h = overwrite_inside headed golden_at golden golden_fits i 0 h
 
-module _ (layout : Layout) (golden : List ℕ) (room : ℕ) (built : build_answer spi layout golden room ≡ Built) where
+module _ (layout : Layout) (golden : List ℕ) (room : ℕ) (e : build_answer spi layout golden room ≡ built) where
   facts : BuildQuestions layout golden room
-  facts = questions layout golden room built
+  facts = questions layout golden room e
 
   long : (16384 ≤ layout.chip_length) × (layout.chip_length ≤ 16777216)
   long = let l = chip_length_range layout.chip_length facts.long in (l.0, l.1)
@@ -187,7 +199,7 @@ module _ (layout : Layout) (golden : List ℕ) (room : ℕ) (built : build_answe
   place_range = let u = update_place_range layout.chip_length layout.update_place facts.starts in (u.1, u.2)
 
   short : length golden ≤ layout.update_place - golden_at
-  short = (accepted_length (layout.update_place - golden_at) golden facts.sync facts.end facts.writes facts.accepted).1
+  short = (accepted_length (layout.update_place - golden_at) golden facts.sync facts.end facts.writes facts.read).1
 
   pub golden_room : golden_at + length golden ≤ layout.chip_length
   golden_room = let u = place_range in omega (arith, short)
@@ -199,7 +211,7 @@ module _ (layout : Layout) (golden : List ℕ) (room : ℕ) (built : build_answe
   golden_area_law = golden_area layout.update_place chip
 
   itself : LoadsAlone spi golden
-  itself = accepted_alone (layout.update_place - golden_at) golden facts.sync facts.end facts.writes facts.accepted
+  itself = accepted_alone (layout.update_place - golden_at) golden facts.sync facts.end facts.writes facts.read
 
   -- The golden area reads as the golden image does: what follows the image is not looked at.
   area_reads : (read_alone golden_area_law ≡ Loaded itself.sync itself.end itself.writes false) × (listed golden_area_law (Loaded itself.sync itself.end itself.writes false) ≡ listed golden (Loaded itself.sync itself.end itself.writes false))
@@ -251,16 +263,21 @@ module _ (layout : Layout) (golden : List ℕ) (room : ℕ) (built : build_answe
       same : Loaded (golden_at + off.itself.sync) (golden_at + off.itself.end) off.itself.writes false ≡ Loaded (golden_at + itself.sync) (golden_at + itself.end) itself.writes false
       same = let e = sym off.itself.reading ∙ area_reads.0 in cc
 
+-- A refusal leaves the buffer as it was, and promises no chip in it.
+pub refused_stays : (layout : Layout) (golden buffer : List ℕ) (r : Refusal) → Err r ≡ build_answer spi layout golden (length buffer) → (buffer ≡ build_output spi layout golden buffer) × LoadsGolden spi (Err r) layout golden buffer
+unfolding output_of LoadsGolden
+refused_stays layout golden buffer r e = (ap (λ (a : Answer). output_of spi a layout golden buffer) e, tt)
+
 -- The promise of the builder's contract: what stands at the front of the buffer loads the golden image.
 pub build_loads : (layout : Layout) (golden buffer : List ℕ) → LoadsGolden spi (build_answer spi layout golden (length buffer)) layout golden (build_output spi layout golden buffer)
 unfolding LoadsGolden output_of
 build_loads layout golden buffer = go (build_answer spi layout golden (length buffer)) refl
   where
-    go : (a : BuildAnswer) → build_answer spi layout golden (length buffer) ≡ a → LoadsGolden spi a layout golden (output_of spi a layout golden buffer)
-    go Built e =
+    go : (a : Answer) → build_answer spi layout golden (length buffer) ≡ a → LoadsGolden spi a layout golden (output_of spi a layout golden buffer)
+    go (Ok done) e =
         let long = built_length layout golden (golden_room layout golden (length buffer) e) in
         let room = (questions layout golden (length buffer) e).fits in
         let front : take layout.chip_length (front_filled (built_chip spi layout golden) buffer) ≡ built_chip spi layout golden =
         ap (take layout.chip_length) (front_fits (built_chip spi layout golden) buffer (omega (arith, long, room))) ∙ take_at (built_chip spi layout golden) _ layout.chip_length long in
         rw front (built_loads layout golden (length buffer) e)
-    go (BuildRefused number place) e = tt
+    go (Err r) e = tt

@@ -1,37 +1,77 @@
 -- `builder::build` meets its contract.
-use mathlib.Core.Path.{sym, ap, ◌∙◌}
-use lib.ListN.{length}
-use Rattle.base.proofs.Laws.{gives}
+use Rattle.std.proofs.Common.{◌≤◌, ◌≡◌, length, Ok, Err, refl, sym, ap, ◌∙◌, rules, arith}
+use borrow.Author.Tests.{leb-true, le-leb}
+use Rattle.base.specs.Question.{ask}
+use Rattle.base.proofs.Laws.{asked_ok, asked_err, gives}
 use Rattle.kind.specs.Spi.{spi}
-use Rattle.builder.specs.Builder.{build_numbers, golden_answer, build_answer, output_of}
-use Rattle.builder.specs.Types.{BuildAnswer, BuildRefused}
-use Rattle.kind.proofs.Laws.{on_layout, by_layout}
-use Rattle.builder.proofs.BuiltLaws.{build_loads}
+use Rattle.kind.specs.Layout.{layout_answer}
+use Rattle.kind.proofs.Laws.{update_place_range, allowed_asks}
+use Rattle.builder.specs.Builder.{build_numbers, build_answer, output_of}
+use Rattle.builder.proofs.BuiltLaws.{Answer, built, questions, golden_room, layout_refused, golden_refused, golden_accepted, refused_stays, build_loads}
 use Rattle.builder.proofs.build.Goals as goal
+use Rattle.builder.proofs.build.Goals.{In_ok-check, In_ok-ask}
 
-pub build_allowed-requires : goal.build_allowed-requires
-build_allowed-requires c = sym c.check-allowed.ensures.same ∙ c.in-Allowed.is
-
-pub returns-in-Allowed : goal.returns-in-Allowed
-unfolding build_answer on_layout
-returns-in-Allowed c =
-    let a = sym c.check-allowed.ensures.same ∙ c.in-Allowed.is in
-    let e = rw a at (by_layout BuildRefused (golden_answer spi c.args.layout c.args.golden.now (length c.args.out.now)) c.args.layout) in
-    let r = c.build_allowed.ensures.answer ∙ e in
-    let o = c.build_allowed.ensures.output ∙ ap (λ (a : BuildAnswer). output_of spi a c.args.layout c.args.golden.now c.args.out.now) e in
+pub returns-in_err-check : goal.returns-in_err-check
+returns-in_err-check c =
+    let e = layout_refused c.args.layout c.args.golden.now (length c.args.out.now) _ (sym c.check.ensures.same ∙ c.in_err-check.was) in
+    let k = refused_stays c.args.layout c.args.golden.now c.args.out.now _ e in
+    let same : c.from_residual.result ≡ Err c.in_err-check.field-0.0 = search rules in
     record {
-      answer = gives build_numbers _ _ r;
-      output = o;
-      loads = rw (r, o) (build_loads c.args.layout c.args.golden.now c.args.out.now);
+      answer = gives build_numbers _ _ (same ∙ e);
+      output = k.0;
+      loads = rw same k.1;
     }
 
-pub returns-in-Refused : goal.returns-in-Refused
-unfolding build_answer on_layout output_of
-returns-in-Refused c =
-    let a = sym c.check-allowed.ensures.same ∙ c.in-Refused.is in
-    let e = rw a at (by_layout BuildRefused (golden_answer spi c.args.layout c.args.golden.now (length c.args.out.now)) c.args.layout) in
+-- after questions 1 to 3
+allowed : (c : In_ok-check) → layout_answer c.args.layout ≡ built
+allowed c = sym c.check.ensures.same ∙ c.in_ok-check.was
+
+pub overflow_sub-layout : goal.overflow_sub-layout
+overflow_sub-layout c =
+    let u = update_place_range _ _ (allowed_asks c.args.layout (allowed (goal.at.overflow_sub-layout c).In_ok-check)).1 in
+    omega arith
+
+pub returns-in_err-check_within : goal.returns-in_err-check_within
+returns-in_err-check_within c =
+    let e = golden_refused c.args.layout c.args.golden.now (length c.args.out.now) (allowed (goal.at.returns-in_err-check_within c).In_ok-check) _ (sym c.check_within.ensures.same ∙ c.in_err-check_within.was) in
+    let k = refused_stays c.args.layout c.args.golden.now c.args.out.now _ e in
+    let same : c.from_residual-in_err-check_within.result ≡ Err c.in_err-check_within.field-0.0 = search rules in
+    record {
+      answer = gives build_numbers _ _ (same ∙ e);
+      output = k.0;
+      loads = rw same k.1;
+    }
+
+pub returns-in_err-ask : goal.returns-in_err-ask
+unfolding ask
+returns-in_err-ask c =
+    let room = asked_err _ _ _ (sym c.ask.ensures ∙ c.in_err-ask.was) in
+    let e = rw (room.0, room.1) at (golden_accepted c.args.layout c.args.golden.now (length c.args.out.now) (allowed (goal.at.returns-in_err-ask c).In_ok-check) _ (sym c.check_within.ensures.same ∙ c.in_ok-check_within.was)) in
+    let k = refused_stays c.args.layout c.args.golden.now c.args.out.now _ e in
+    let same : c.from_residual-in_err-ask.result ≡ Err c.in_err-ask.field-0.0 = search rules in
+    record {
+      answer = gives build_numbers _ _ (same ∙ e);
+      output = k.0;
+      loads = rw same k.1;
+    }
+
+-- after all of them
+is_built : (c : In_ok-ask) → built ≡ build_answer spi c.args.layout c.args.golden.now (length c.args.out.now)
+unfolding ask
+is_built c = rw (asked_ok _ _ (sym c.ask.ensures ∙ c.in_ok-ask.was)) at (golden_accepted c.args.layout c.args.golden.now (length c.args.out.now) (sym c.check.ensures.same ∙ c.in_ok-check.was) _ (sym c.check_within.ensures.same ∙ c.in_ok-check_within.was))
+
+pub write_chip-requires : goal.write_chip-requires
+write_chip-requires c =
+    let e = sym (is_built (goal.at.write_chip-requires c).In_ok-ask) in
+    (golden_room c.args.layout c.args.golden.now (length c.args.out.now) e, (questions c.args.layout c.args.golden.now (length c.args.out.now) e).fits)
+
+pub returns : goal.returns
+unfolding output_of
+returns c =
+    let e = is_built (goal.at.returns c).In_ok-ask in
+    let o = c.write_chip.ensures ∙ ap (λ (a : Answer). output_of spi a c.args.layout c.args.golden.now c.args.out.now) e in
     record {
       answer = gives build_numbers _ _ e;
-      output = ap (λ (a : BuildAnswer). output_of spi a c.args.layout c.args.golden.now c.args.out.now) e;
-      loads = rw (sym e) at (build_loads c.args.layout c.args.golden.now c.args.out.now);
+      output = o;
+      loads = rw (e, o) (build_loads c.args.layout c.args.golden.now c.args.out.now);
     }
