@@ -1,6 +1,6 @@
 -- The types of the code that this crate's definitions and proofs name, with their cases; each has one name in the whole tree.
 pub use Rattle.base.specs.declared.refusal.Reason.{Reason}
-pub use Rattle.base.specs.declared.refusal.Reason.TheVariants.{BadImageLength, BadState, RunEnded}
+pub use Rattle.base.specs.declared.refusal.Reason.TheVariants.{BadImageLength, ImageFault, ImageJumps, BadState, RunEnded}
 pub use Rattle.base.specs.declared.refusal.Refusal.{Refusal}
 pub use Rattle.configreader.specs.declared.Outcome.{Outcome}
 pub use Rattle.configreader.specs.declared.Outcome.TheVariants.{Loaded, Iprog as OutcomeIprog, Stuck}

@@ -20,6 +20,7 @@ pub struct RunProgress {
 }
 
 // Starts a run: its first state; or refusal 1 to 6.
+#[tactic(auto, using(crate::proofs::StartLaws::start_layout, crate::proofs::StartLaws::start_image, crate::proofs::StartLaws::start_accepted, base::proofs::Laws::gives))]
 pub fn start(layout: Layout, image: &[u8]) -> Result<State, Refusal>
     ensures { Gives start_numbers result (start_answer spi layout image.now) }
 {
@@ -35,6 +36,7 @@ pub fn start(layout: Layout, image: &[u8]) -> Result<State, Refusal>
 }
 
 // How many orders a run has with an image of this length; or refusal 1 to 4.
+#[tactic(auto, using(crate::proofs::StartLaws::total_refused, crate::proofs::StartLaws::total_allowed, crate::proofs::StartLaws::total_small, base::proofs::Laws::gives))]
 pub fn total(layout: Layout, image_length: usize) -> Result<usize, Refusal>
     ensures { Gives total_numbers result (total_answer layout image_length) }
 {
@@ -56,6 +58,7 @@ fn progress_running(run: Running) -> RunProgress
 
 // The number of the order that a state asks for, counted from 1, and how many its run has; or refusal 7 or 8. No image
 // is lent.
+#[tactic(auto, unfolding(base::specs::Question::ask), using(crate::proofs::ProgressLaws::progress_refused, crate::proofs::ProgressLaws::progress_ended, crate::proofs::ProgressLaws::progress_goes_on, crate::proofs::ProgressLaws::runs, base::proofs::Laws::gives))]
 pub fn progress(state: State) -> Result<RunProgress, Refusal>
     ensures { Gives progress_numbers result (progress_answer state) }
 {

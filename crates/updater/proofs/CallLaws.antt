@@ -87,12 +87,6 @@ places_small state lent e r =
 pub fits_own : (state : State) (lent : ℕ) → fits state lent ≡ true → fits state state.image_length ≡ true
 fits_own state lent e = ap (fits state) (fits_says state lent e).same ∙ e
 
--- A question that was not refused had a yes.
-pub yes : (b : Bool) (reason : Reason) (answer : Result (Unit {0}) Refusal) (u : Unit {0}) → answer ≡ ask b (refused reason 0) (Ok tt) → answer ≡ Ok u → b ≡ true
-unfolding ask
-yes true reason answer u e was = refl
-yes false reason answer u e was = let z : ◌≡◌ {A = ℕ} 0 1 = cc in absurd (omega arith)
-
 -- Questions 6 and 7 by themselves: with a yes to both, the run's state fits and goes on,
 pub goes_on : (state : State) (lent : ℕ) (answer : Result Running Refusal) (run : Running) → state_of answer ≡ running_asked state lent → answer ≡ Ok run →
     (run.state ≡ state) × (fits state lent ≡ true) × (running state ≡ true)
