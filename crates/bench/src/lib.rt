@@ -10,18 +10,18 @@ ghost use Rattle.kind.specs.Layout.{segment};
 ghost use Rattle.flash.specs.Flash.{erased};
 ghost use Rattle.kind.specs.Spi.{spi};
 ghost use Rattle.orders.specs.Orders.{orders};
-ghost use Rattle.updater.specs.State.{position, first, fits};
+ghost use Rattle.updater.specs.State.{position, first};
 ghost use Rattle.effects.specs.Progress.{chip_after, state_at};
 ghost use Rattle.bench.specs.Bench.{mixture, span_allows, cut_allowed, cut_in, bench_numbers, bench_answer, bench_output, bench_layout};
 ghost use Rattle.bench.specs.Types.{BadDamage};
 
 use base::refusal::{Reason, Refusal, ask};
-use effects::{obey_orders, state_after};
+use effects::Run;
 use flash::overwrite;
 use kind::spi::Spi;
 use orders::Operation;
 use starts::start;
-use updater::state::{Running, State};
+use updater::state::State;
 
 // Whether each bit of the new bytes is 1 or that of the others.
 fn mixes_with_erased(others: &[u8], new: &[u8]) -> bool
@@ -51,15 +51,15 @@ fn span_allowed(place: usize, count: usize, others: &[u8], damage: &[u8]) -> boo
 
 // Question 10 for the current order, before anything is written: the chip is the one before the run.
 // Only the erase of segment 0 finds it as it was.
-fn damage_allowed(chip: &[u8], state: State, image: &[u8], damage: &[u8]) -> bool
-    requires { (fits state (length image.now) ≡ true) × (state.layout.chip_length ≡ length chip.now) }
-    ensures { result ≡ cut_allowed (drop (position state) (orders spi state.layout image.now)) (chip_after spi state.layout image.now (position state) chip.now) damage.now }
+fn damage_allowed(chip: &[u8], run: &Run, damage: &[u8]) -> bool
+    requires { run.now.state.layout.chip_length ≡ length chip.now }
+    ensures { result ≡ cut_allowed (drop (position run.now.state) (orders spi run.now.state.layout run.now.image.now)) (chip_after spi run.now.state.layout run.now.image.now (position run.now.state) chip.now) damage.now }
 {
-    if state.phase >= 7 {
+    if !run.goes_on() {
         return true;
     }
     let on = Spi::ON;
-    match (Running { state }).operation() {
+    match run.operation() {
         Operation::Erase { place, length } => span_allowed(
             place,
             length,
@@ -75,14 +75,15 @@ fn damage_allowed(chip: &[u8], state: State, image: &[u8], damage: &[u8]) -> boo
 }
 
 // What the cut order leaves. Its span lies within the chip, so nothing is refused.
-fn write_damage(chip: &mut [u8], state: State, image: &[u8], damage: &[u8])
-    requires { (fits state (length image.now) ≡ true) × (state.layout.chip_length ≡ length chip.old) × (cut_allowed (drop (position state) (orders spi state.layout image.now)) chip.old damage.now ≡ true) }
-    ensures { chip.new ≡ cut_in (drop (position state) (orders spi state.layout image.now)) chip.old damage.now }
+fn write_damage(chip: &mut [u8], run: &Run, damage: &[u8])
+    requires long { run.now.state.layout.chip_length ≡ length chip.old }
+    requires allowed { cut_allowed (drop (position run.now.state) (orders spi run.now.state.layout run.now.image.now)) chip.old damage.now ≡ true }
+    ensures { chip.new ≡ cut_in (drop (position run.now.state) (orders spi run.now.state.layout run.now.image.now)) chip.old damage.now }
 {
-    if state.phase >= 7 {
+    if !run.goes_on() {
         return;
     }
-    match (Running { state }).operation() {
+    match run.operation() {
         Operation::Erase { place, length } | Operation::Program { place, length } => {
             let _ = overwrite(chip, place, &damage[..length]);
         }
@@ -94,16 +95,17 @@ fn write_damage(chip: &mut [u8], state: State, image: &[u8], damage: &[u8])
 }
 
 // Question 10, and the cut, for a run that is started: its state before the cut order, or at its end.
-fn cut_begun(chip: &mut [u8], begun: State, image: &[u8], cut: usize, damage: &[u8]) -> Result<State, Refusal>
-    requires { (begun ≡ first begun.layout (length image.now)) × (fits begun (length image.now) ≡ true) × (begun.layout.chip_length ≡ length chip.old) }
-    ensures answer { result ≡ question (cut_allowed (drop cut (orders spi begun.layout image.now)) (chip_after spi begun.layout image.now cut chip.old) damage.now) (refused BadDamage 0) (Ok (state_at begun.layout image.now cut)) }
-    ensures output { chip.new ≡ bench_output result spi begun.layout chip.old image.now cut damage.now }
+fn cut_begun(chip: &mut [u8], begun: Run, cut: usize, damage: &[u8]) -> Result<State, Refusal>
+    requires begins { begun.state ≡ first begun.state.layout (length begun.image.now) }
+    requires long { begun.state.layout.chip_length ≡ length chip.old }
+    ensures answer { result ≡ question (cut_allowed (drop cut (orders spi begun.entry.state.layout begun.entry.image.now)) (chip_after spi begun.entry.state.layout begun.entry.image.now cut chip.old) damage.now) (refused BadDamage 0) (Ok (state_at begun.entry.state.layout begun.entry.image.now cut)) }
+    ensures output { chip.new ≡ bench_output result spi begun.entry.state.layout chip.old begun.entry.image.now cut damage.now }
 {
-    let reached = state_after(begun, cut);
-    ask(damage_allowed(chip, reached, image, damage), Reason::BadDamage)?;
-    obey_orders(chip, begun, image, cut);
-    write_damage(chip, reached, image, damage);
-    Ok(reached)
+    let reached = begun.after(cut);
+    ask(damage_allowed(chip, &reached, damage), Reason::BadDamage)?;
+    begun.obey_orders(chip, cut);
+    write_damage(chip, &reached, damage);
+    Ok(reached.state)
 }
 
 // Runs an update on a chip and cuts the power in the order after the first `cut`: those are obeyed in full, and
@@ -121,6 +123,6 @@ pub fn cut_run(
     ensures output { chip.new ≡ bench_output (bench_answer spi (bench_layout chip.old update_place update_length) chip.old image.now cut damage.now) spi (bench_layout chip.old update_place update_length) chip.old image.now cut damage.now }
 {
     let layout = Spi::layout(chip.len(), update_place, update_length);
-    let begun = start(layout, image)?;
-    cut_begun(chip, begun, image, cut, damage)
+    let state = start(layout, image)?;
+    cut_begun(chip, Run { state, image }, cut, damage)
 }

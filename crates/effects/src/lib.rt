@@ -1,11 +1,12 @@
 // A run on the bytes of a chip that obeys: the run's state and the chip after a number of orders. For the bench
-// alone: its functions ask their caller for a run's first state.
+// alone: its functions ask their caller for a run that is at its start, and for a chip of its layout's length.
 #![tactic(auto)]
 
 ghost use Rattle.std.specs.Prelude.{min, ◌≡◌, true, length};
 ghost use Rattle.kind.specs.Spi.{spi};
 ghost use Rattle.orders.specs.Table.{total};
-ghost use Rattle.updater.specs.State.{first, fits, current_order};
+ghost use Rattle.orders.specs.Orders.{operation_of};
+ghost use Rattle.updater.specs.State.{first, after, running, fits, current_order};
 ghost use Rattle.effects.specs.Effects.{obeyed};
 ghost use Rattle.effects.specs.Progress.{chip_after, state_after};
 
@@ -13,53 +14,100 @@ use flash::{erase, program};
 use orders::Operation;
 use updater::state::{Running, State};
 
-// The state after `cut` orders, or at the run's end.
-pub fn state_after(begun: State, cut: usize) -> State
-    requires { (begun ≡ first begun.layout begun.image_length) × (fits begun begun.image_length ≡ true) }
-    ensures { result ≡ state_after (min cut (total begun.layout begun.image_length)) begun }
-{
-    let mut state = begun;
-    for _ in 0..cut {
-        if state.phase >= 7 {
-            return state;
-        }
-        state = Running { state }.after_order();
-    }
-    state
+// A run on an image: its state, which fits the image.
+#[derive(Clone, Copy)]
+pub struct Run<'a> {
+    pub state: State,
+    pub image: &'a [u8],
+    ghost fits: { fits state (length image.now) ≡ true },
 }
 
-// The chip obeys the current order. Every order's span lies within the chip, so none is refused.
-fn obey_order(chip: &mut [u8], run: Running, image: &[u8])
-    requires { (run.state.image_length ≡ length image.now) × (run.state.layout.chip_length ≡ length chip.old) }
-    ensures { chip.new ≡ obeyed (current_order spi run.state image.now) chip.old }
-{
-    match run.operation() {
-        Operation::Erase { place, length } => {
-            let _ = erase(chip, place, length);
-        }
-        Operation::Program { place, length } => {
-            let bytes = run.bytes(image);
-            let _ = program(chip, place, &bytes[..length]);
-        }
-        Operation::Look {
-            place: _,
-            length: _,
-        } => {}
+impl<'a> Run<'a> {
+    // Whether it goes on.
+    pub fn goes_on(&self) -> bool
+        ensures { result ≡ running self.now.state }
+    {
+        self.state.phase < 7
     }
-}
 
-// The chip obeys the first `cut` orders, or all of the run.
-pub fn obey_orders(chip: &mut [u8], begun: State, image: &[u8], cut: usize)
-    requires { (begun ≡ first begun.layout (length image.now)) × (fits begun (length image.now) ≡ true) × (begun.layout.chip_length ≡ length chip.old) }
-    ensures { chip.new ≡ chip_after spi begun.layout image.now cut chip.old }
-{
-    let mut state = begun;
-    for _ in 0..cut {
-        if state.phase >= 7 {
-            return;
+    // Its state, which goes on.
+    fn running(&self) -> Running
+        requires { running self.now.state ≡ true }
+        ensures { result.state ≡ self.now.state }
+    {
+        Running { state: self.state }
+    }
+
+    // Its current order.
+    pub fn operation(&self) -> Operation
+        requires { running self.now.state ≡ true }
+        ensures { result ≡ operation_of (current_order spi self.now.state self.now.image.now) }
+    {
+        self.running().operation()
+    }
+
+    // The run after that order.
+    fn next(self) -> Run<'a>
+        requires { running self.state ≡ true }
+        ensures state { result.state ≡ after self.entry.state }
+        ensures image { result.image ≡ self.entry.image }
+    {
+        Run {
+            state: self.running().after_order(),
+            image: self.image,
         }
-        let run = Running { state };
-        obey_order(chip, run, image);
-        state = run.after_order();
+    }
+
+    // The chip obeys the current order. Every order's span lies within the chip, so none is refused.
+    fn obey_order(&self, chip: &mut [u8])
+        requires goes_on { running self.now.state ≡ true }
+        requires long { self.now.state.layout.chip_length ≡ length chip.old }
+        ensures { chip.new ≡ obeyed (current_order spi self.now.state self.now.image.now) chip.old }
+    {
+        match self.operation() {
+            Operation::Erase { place, length } => {
+                let _ = erase(chip, place, length);
+            }
+            Operation::Program { place, length } => {
+                let bytes = self.running().bytes(self.image);
+                let _ = program(chip, place, &bytes[..length]);
+            }
+            Operation::Look {
+                place: _,
+                length: _,
+            } => {}
+        }
+    }
+
+    // The run after `cut` orders, or at its end.
+    pub fn after(self, cut: usize) -> Run<'a>
+        requires { self.state ≡ first self.state.layout (length self.image.now) }
+        ensures state { result.state ≡ state_after (min cut (total self.entry.state.layout (length self.entry.image.now))) self.entry.state }
+        ensures image { result.image ≡ self.entry.image }
+    {
+        let mut run = self;
+        for _ in 0..cut {
+            if !run.goes_on() {
+                return run;
+            }
+            run = run.next();
+        }
+        run
+    }
+
+    // The chip obeys the first `cut` orders, or all of the run.
+    pub fn obey_orders(self, chip: &mut [u8], cut: usize)
+        requires begins { self.state ≡ first self.state.layout (length self.image.now) }
+        requires long { self.state.layout.chip_length ≡ length chip.old }
+        ensures { chip.new ≡ chip_after spi self.entry.state.layout self.entry.image.now cut chip.old }
+    {
+        let mut run = self;
+        for _ in 0..cut {
+            if !run.goes_on() {
+                return;
+            }
+            run.obey_order(chip);
+            run = run.next();
+        }
     }
 }

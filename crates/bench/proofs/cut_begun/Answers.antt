@@ -17,54 +17,26 @@ use Rattle.bench.proofs.BenchLaws.{CutAt, cut_at, no_said, yes_said}
 use Rattle.bench.proofs.cut_begun.Goals as goal
 use Rattle.bench.proofs.cut_begun.Goals.{After-damage_allowed, After-state_after-reached}
 
-pub state_after-reached-requires : goal.state_after-reached-requires
-state_after-reached-requires c =
-    let a = c.args in
-    let p = c.requires in
-    (p.0 ∙ ap (first a.begun.layout) (sym (fits_says a.begun (length a.image.now) p.1).same), fits_own a.begun (length a.image.now) p.1)
-
--- The state that is reached,
-stops : (c : After-state_after-reached) → CutAt c.args.begun c.args.image.now c.args.cut c.state_after-reached.result
+-- The run that is reached,
+stops : (c : After-after-reached) → CutAt c.args.begun.state c.args.begun.image.now c.args.cut c.after-reached.result.state
 stops c =
-    let a = c.args in
-    let p = c.requires in
-    cut_at a.begun a.image.now a.cut c.state_after-reached.result p.0 p.1 c.state_after-reached.ensures
+    let begun = c.args.begun in
+    cut_at begun.state begun.image.now c.args.cut c.after-reached.result.state c.requires.begins begun.fits c.after-reached.ensures.state
 
 -- and what question 10 asks of it.
 asks : (c : After-damage_allowed) →
-    c.damage_allowed.result ≡ cut_allowed (drop c.args.cut (orders spi c.args.begun.layout c.args.image.now)) (chip_after spi c.args.begun.layout c.args.image.now c.args.cut c.args.chip.now) c.args.damage.now
-asks c =
-    let a = c.args in
-    let s = cut_at a.begun a.image.now a.cut c.state_after-reached.result c.requires.0 c.requires.1 c.state_after-reached.ensures in
-    c.damage_allowed.ensures ∙ ap₂ (λ (l : List Order) (h : List ℕ). cut_allowed l h c.args.damage.now) s.left (s.chip c.args.chip.now)
+    c.damage_allowed.result
+    ≡ cut_allowed (drop c.args.cut (orders spi c.args.begun.state.layout c.args.begun.image.now)) (chip_after spi c.args.begun.state.layout c.args.begun.image.now c.args.cut c.args.chip.now) c.args.damage.now
+asks c = ?
 
 pub damage_allowed-requires : goal.damage_allowed-requires
-damage_allowed-requires c =
-    let s = stops (goal.at.damage_allowed-requires c).After-state_after-reached in
-    (s.fit, ap (λ (l : Layout). l.chip_length) s.same ∙ c.requires.2)
+damage_allowed-requires c = ?
 
 pub returns-in_err-ask : goal.returns-in_err-ask
-unfolding bench_output
-returns-in_err-ask c = record {
-  answer = sym (no_said _ BadDamage _ _ (ap (λ (b : Bool). ask b (refused BadDamage 0) (Ok tt)) (sym (asks (goal.at.returns-in_err-ask c).After-damage_allowed)) ∙ sym c.ask.ensures ∙ c.in_err-ask.was));
-  output = refl;
-}
+returns-in_err-ask c = ?
 
 pub write_damage-requires : goal.write_damage-requires
-write_damage-requires c =
-    let a = c.args in
-    let o = c.obey_orders in
-    let s = stops (goal.at.write_damage-requires c).After-state_after-reached in (
-      s.fit,
-      ap (λ (l : Layout). l.chip_length) s.same ∙ c.requires.2 ∙ sym (ap (λ (l : List ℕ). length l) o.ensures ∙ s.long a.chip.now c.requires.2),
-      ap₂ (λ (l : List Order) (h : List ℕ). cut_allowed l h a.damage.now) s.left o.ensures ∙ sym (asks (goal.at.write_damage-requires c).After-damage_allowed) ∙ yes_said _ BadDamage _ (sym c.ask.ensures ∙ c.in_ok-ask.was),
-    )
+write_damage-requires c = ?
 
 pub returns : goal.returns
-unfolding ask bench_output
-returns c =
-    let a = c.args in
-    let s = stops (goal.at.returns c).After-state_after-reached in record {
-      answer = rw (sym (asks (goal.at.returns c).After-damage_allowed) ∙ yes_said _ BadDamage _ (sym c.ask.ensures ∙ c.in_ok-ask.was)) (ap (λ (x : State). Ok x) s.is);
-      output = c.write_damage.ensures ∙ ap₂ (λ (l : List Order) (h : List ℕ). cut_in l h a.damage.now) s.left c.obey_orders.ensures;
-    }
+returns c = ?
