@@ -12,6 +12,7 @@ use Rattle.kind.specs.Spi.{spi}
 use Rattle.orders.specs.Orders.{operation_of, programmed, order_bytes}
 use Rattle.updater.specs.State.{running, fits, current_order}
 use Rattle.effects.specs.Types.{State, Program}
+use Rattle.updater.proofs.Laws.{fits_says}
 use Rattle.comparison.proofs.Laws.{padded_length}
 use Rattle.effects.proofs.ProgressLaws.{done_by, program_count, current_most, current_done}
 use Rattle.effects.proofs.Run.obey_order.Goals as goal
