@@ -12,8 +12,8 @@ use Rattle.base.proofs.Laws.{front_fits}
 use Rattle.digits.specs.Pairs.{ArePairs, pairs_at}
 use Rattle.mcsline.specs.Record.{Data, ExtendedLinearAddress, End}
 use Rattle.mcsline.specs.Line.{Parsed, parsed}
-use Rattle.mcsline.specs.Place.{line_at, Sound, as_line}
-use Rattle.mcs.specs.Types.{Reason, Refusal, CodeLine, DataLine, ExtendedLinearAddressLine, EndLine}
+use Rattle.mcsline.specs.Place.{line_at, Sound}
+use Rattle.mcs.specs.Types.{Refusal, CodeLine, DataLine, ExtendedLinearAddressLine, EndLine}
 use Rattle.mcsline.proofs.Laws.{after, DataAt, Told, told_bytes, told_data, told_upper, told_end}
 use Rattle.mcs.specs.Reading.{follows, is_empty, Reading, read_lines, read_text}
 use Rattle.mcs.specs.Reader.{held_output}

@@ -16,7 +16,7 @@ use Rattle.mcsline.specs.Line.{by_spelled, line_spells, count_of, Parsed, typed,
 use Rattle.mcsline.specs.Place.{ending_at, line_at, Sound, Orderly, ShapeIs, as_line}
 use Rattle.mcsline.proofs.LineLaws.{spelled_at, spells, spelled, line_spells_law, line_colon, line_long}
 use Rattle.mcsline.proofs.TypeLaws.{line_pairs, count_is}
-use Rattle.std.specs.Prelude.{Option, Some, None, Result, Ok, Err, IsOk}
+use Rattle.std.specs.Prelude.{Option, Some, None, Ok, Err, IsOk}
 use Rattle.mcsline.specs.Types.{BadLine, BadSum, Shape}
 
 -- Question 11 by what a line spells.

@@ -2,7 +2,6 @@
 use Rattle.mcsline.proofs.Laws.{Told, told_long, told_upper}
 use Rattle.mcs.proofs.FillLaws.{fill_start, fill_length, fill_none, fill_sound, fill_upper, fill_end, fill_pairs, fill_data, fill_fits}
 use native.Mathlib.Omega.{arith}
-use mathlib.Core.Path.{◌≡◌}
 use Rattle.mcs.proofs.reader.fill.Goals as goal
 use Rattle.mcs.proofs.reader.fill.Goals.{After-parse_sound}
 
