@@ -4,11 +4,11 @@ use Rattle.base.specs.Answer.{Numbered, in_numbers}
 use Rattle.base.specs.Output.{front_filled}
 use Rattle.base.specs.Question.{ask}
 use Rattle.base.specs.Refusal.{refused}
-use Rattle.base.specs.Types.{BadImageLength, NoRoom, Refusal}
 use Rattle.mcs.specs.Reader.{read_answer, read_output}
 use Rattle.canonical.specs.Canonical.{canonical_text, canonical_length}
 use Rattle.canonical.specs.Rule.{writable}
 use Rattle.canonical.specs.Test.{is_canonical}
+use Rattle.mcswriter.specs.Types.{BadImageLength, NoRoom, Refusal}
 
 -- in numbers: how long the text is
 abbrev pub text_numbers : Result ℕ Refusal → Numbered

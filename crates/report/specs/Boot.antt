@@ -2,12 +2,11 @@
 use Rattle.std.specs.Prelude.{ℕ, List, ◌++◌, length, Result}
 use Rattle.base.specs.Question.{ask}
 use Rattle.base.specs.Refusal.{refused}
-use Rattle.base.specs.Types.{BadChipLength, Refusal}
 use Rattle.base.specs.Output.{front_filled}
 use Rattle.kind.specs.Layout.{chip_length_allowed}
 use Rattle.kind.specs.Kind.{Kind}
 use Rattle.reportlines.specs.Reportlines.{loaded_line, write_lines, end_line, stuck_line}
-use Rattle.report.specs.Types.{Outcome, Loaded, OutcomeIprog, Stuck}
+use Rattle.report.specs.Types.{BadChipLength, Refusal, Outcome, Loaded, OutcomeIprog, Stuck}
 use Rattle.report.specs.Refusal.{written}
 
 -- the report of a chip whose reading came to this

@@ -3,9 +3,9 @@ use Rattle.std.specs.Prelude.{ℕ, List, [], ◌∷◌, leb, length, Result, Ok}
 use Rattle.base.specs.Answer.{Numbered, in_numbers}
 use Rattle.base.specs.Output.{front_filled}
 use Rattle.base.specs.Refusal.{refused}
-use Rattle.base.specs.Types.{NoRoom, Refusal}
 use Rattle.base.specs.Question.{ask}
 use Rattle.reportlines.specs.Reportlines.{refused_line}
+use Rattle.report.specs.Types.{NoRoom, Refusal}
 
 -- in numbers: how long the report is
 abbrev pub report_numbers : Result ℕ Refusal → Numbered

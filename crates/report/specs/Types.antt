@@ -1,4 +1,6 @@
 -- The types of the code that this crate's definitions and proofs name, with their cases; each has one name in the whole tree.
+pub use Rattle.base.specs.declared.refusal.Reason.TheVariants.{BadChipLength, NoRoom}
+pub use Rattle.base.specs.declared.refusal.Refusal.{Refusal}
 pub use Rattle.packets.specs.declared.trace.Write.{Write}
 pub use Rattle.writes.specs.declared.cursor.Cursor.{Cursor}
 pub use Rattle.configreader.specs.declared.Outcome.{Outcome}

@@ -38,6 +38,7 @@ fn report_loaded(
 }
 
 // The report of a chip that is stuck.
+#[tactic(auto, unfolding(crate::specs::Refusal::written, base::specs::Output::front_filled, base::specs::Question::ask), using(base::proofs::Laws::gives, reportlines::proofs::Laws::length_stuck))]
 fn report_stuck(place: usize, out: &mut [u8]) -> Result<usize, Refusal>
     ensures value { result ≡ written (stuck_line place) (length out.old) }
     ensures out_after { out.new ≡ front_filled (stuck_line place) out.old }
