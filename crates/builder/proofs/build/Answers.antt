@@ -1,6 +1,5 @@
 -- `builder::build` meets its contract.
-use Rattle.std.proofs.Common.{◌≤◌, ◌≡◌, length, Ok, Err, refl, sym, ap, ◌∙◌, rules, arith}
-use borrow.Author.Tests.{leb-true, le-leb}
+use Rattle.std.proofs.Common.{◌≡◌, length, Err, sym, ap, ◌∙◌, rules, arith}
 use Rattle.base.specs.Question.{ask}
 use Rattle.base.proofs.Laws.{asked_ok, asked_err, gives}
 use Rattle.kind.specs.Spi.{spi}
