@@ -23,6 +23,7 @@ const TYPE2_OF_ONE: u32 = 0x5000_0001;
 
 // Whether all of a packet's data words can be passed at once: there are some, no more than `room`, and
 // none of them ends the reading. A yes is sure; after a no the steps decide.
+#[tactic(auto, using(scanner::proofs::Laws::other_plain))]
 fn may_skip(s: &[u8], at: usize, register: u32, count: usize, room: usize) -> bool
     requires { count ≤ room → count ≤ length (words (drop at s.now)) }
     ensures { result ≡ true → (1 ≤ count) × (count ≤ room) × ((i : ℕ) → i < count → effect_of register (get_or (words (drop at s.now)) i 0) ≡ GoesOn) }
