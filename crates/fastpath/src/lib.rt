@@ -9,10 +9,10 @@ ghost use Rattle.fastpath.specs.Types.{GoesOn, Type1};
 ghost use Rattle.scanner.specs.Scan.{AtHeader};
 ghost use Rattle.fastpath.specs.Fastpath.{NOP, PacketBegins, CountedBegins, HasRoom, SkipKeeps};
 
-use std::cmp::min;
 use framing::words::{word_at, words_from};
 use packets::header::{CMD, NOP, is_plain_register, is_type1_form, is_type2_write, register_ok};
 use scanner::scan::{Scanner, after_header, after_packet, count_plain_words};
+use std::cmp::min;
 
 // Up to so many words of CMD are looked at here. A longer packet of it is left to the steps: where a word of it ends the
 // reading, those before it would be looked at twice.
@@ -62,6 +62,7 @@ fn skip_counted(s: &[u8], w: Scanner, count: usize, room: usize) -> Scanner
 }
 
 // `skip_counted` or `skip_data`, by the register: the caller has asked that it may be named.
+// Stays: no plainer: a struct of `count` and `room` would be made at each call and at once taken apart; `HasRoom` says what is asked of them.
 fn skip_words(s: &[u8], w: Scanner, register: u32, count: usize, room: usize) -> Scanner
     requires { HasRoom s.now w count room × (register < 32) × (1 ≤ count → PacketBegins s.now w register count) }
     ensures { SkipKeeps s.now w result }

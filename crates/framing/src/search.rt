@@ -25,6 +25,7 @@ fn past_clear(s: &[u8], from: usize) -> usize
     ensures { (from ≤ result) × (result ≤ length s.now) × (find (drop result s.now) result ≡ find (drop from s.now) from) }
 {
     let mut at = from;
+    // Stays: no plainer: what is asked for is the place where the blocks end; a chain over blocks gives their number.
     while s.len() - at >= 32 && !s[at..at + 32].contains(&SYNC[0]) {
         at += 32;
     }

@@ -6,9 +6,9 @@ ghost use Rattle.packets.specs.Header.{effect_of};
 ghost use Rattle.scanner.specs.Types.{GoesOn, Going};
 ghost use Rattle.scanner.specs.Scan.{scanner_from, scanner_after_header, scanner_stopped, scanner_at_end, scanner_at_write, scanner_after_packet, StepKeeps, AtHeader};
 
-use std::cmp::min;
 use framing::words::{word_at, words_from};
 use packets::header::{CMD, Effect, Header, WBSTAR, effect_of, header_of};
+use std::cmp::min;
 
 // Whether a scanner goes on, or what it is at.
 #[derive(Clone, Copy, PartialEq, Eq)]
@@ -25,6 +25,8 @@ pub enum Status {
 // opened it to a type 2 header; whether it goes on; the data words left in the packet; the writes
 // to pass before the wanted one; the writes passed; the last WBSTAR word. It is a plain record with no
 // wide gaps between its fields, so that it can stay in registers from step to step.
+// Stays: no plainer: `register` is also that of the data words left, when it opens nothing, so `opened` makes no Option of it.
+// Stays: no plainer: a type for a scanner before a header (`AtHeader` in contracts) would be this one but two fields, copied to and fro.
 #[derive(Clone, Copy)]
 pub struct Scanner {
     pub at: usize,

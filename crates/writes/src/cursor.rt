@@ -54,8 +54,7 @@ pub(crate) fn after_write(write: Write, left: usize, remaining: usize) -> Cursor
     requires { write.place + 4 < 2 ^ 64 }
     ensures { result ≡ after_write write left remaining }
 {
-    let effect = effect_of(write.register, write.word);
-    let more = match effect {
+    let more = match effect_of(write.register, write.word) {
         Effect::GoesOn => remaining,
         Effect::Desync => 0,
         Effect::Iprog => 0,

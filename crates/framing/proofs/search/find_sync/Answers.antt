@@ -1,31 +1,20 @@
 -- `framing::find_sync` meets its contract. The outer loop's invariant: the search from here finds what the search from `from` finds. The inner one's: the bytes compared so far are those of the sync word.
 use Prim.Native.Nat.{ℕ, zero, suc, ◌+◌, ◌-◌, ◌≤◌, ◌<◌}
-use mathlib.Core.Path.{◌≡◌, refl, sym, ◌∙◌}
+use mathlib.Core.Path.{◌≡◌, sym, ◌∙◌}
 use native.Mathlib.Nat.{add-zero}
 use mathlib.Core.Bool.{false}
 use mathlib.Core.List.{List}
 use native.Mathlib.Omega.{arith}
-use borrow.Author.Count.{below_more}
-use borrow.Author.Rules.{rules}
 use lib.ListN.{length, get_or, drop, length-drop}
 use Rattle.framing.specs.Search.{sync_bytes, begins_with, find}
 use Rattle.framing.proofs.SearchLaws.{find_here, find_short, find_past, differs_at, stands_at}
 use Rattle.framing.proofs.search.find_sync.Goals as goal
 use Rattle.framing.proofs.search.find_sync.Goals.{After-past_clear-at}
 
-pub search-init : goal.search-init
-search-init c = (search rules, refl)
-
-pub past_clear-at-requires : goal.past_clear-at-requires
-past_clear-at-requires c = c.search.invariant.0
-
 -- after the blocks that were passed the search finds what it would have found before them
 onward : (c : After-past_clear-at) →
     find (drop c.past_clear-at.result c.args.s.now) c.past_clear-at.result ≡ find (drop c.args.from c.args.s.now) c.args.from
 onward c = c.past_clear-at.ensures.2 ∙ c.search.invariant.1
-
-pub loop-i-init : goal.loop-i-init
-loop-i-init c = (refl, λ k h. absurd (omega arith))
 
 -- no sync word begins at the place compared, nor at those passed over
 passed : (s : List ℕ) (at j r : ℕ) → j < 4 → (get_or s (at + j) 0 ≡ get_or sync_bytes j 0 → ⊥) → r ≤ 4 →
@@ -46,12 +35,6 @@ search-preserved c =
           (passed s at c.loop-i.i c.skip_after-at.result (omega arith) c.if-s-at.true c.skip_after-at.ensures.range.1 c.skip_after-at.ensures.passed))
           ∙ rw c.loop-i.invariant.0 (onward (goal.at.search-preserved c).After-past_clear-at),
     )
-
-pub loop-i-preserved : goal.loop-i-preserved
-loop-i-preserved c = (
-  c.loop-i.invariant.0,
-  below_more _ _ c.loop-i.invariant.1 c.if-s-at.false,
-)
 
 pub returns-then-s-at-lt4 : goal.returns-then-s-at-lt4
 returns-then-s-at-lt4 c =

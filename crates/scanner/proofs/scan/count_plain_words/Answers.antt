@@ -18,9 +18,6 @@ returns-then-register-ne-CMD c = record {
   stops = λ h e. omega arith;
 }
 
-pub loop-i-init : goal.loop-i-init
-loop-i-init c = λ k h. absurd (omega arith)
-
 pub overflow_mul-i : goal.overflow_mul-i
 overflow_mul-i c = omega (arith, room c.args.s.now c.args.at)
 
