@@ -9,6 +9,7 @@ use lib.Dec.{leb}
 use lib.ListN.{length, take, drop, length-append}
 use lib.Seq.{take_at}
 use Rattle.std.specs.Prelude.{Result, Ok, Err}
+use Rattle.base.proofs.Laws.{gives}
 use Rattle.base.specs.Question.{ask}
 use Rattle.base.specs.Refusal.{refused}
 use Rattle.base.specs.Output.{front_filled}
@@ -58,6 +59,9 @@ module _ (text buffer : List ℕ) where
   pub good_fits : {n : ℕ} → size_of (read_text text) ≡ Ok n → leb n (length buffer) ≡ true → Fits (read_text text) (length buffer)
   unfolding Fits
   good_fits {n} e h = let i = held e in let m = leb-true n (length buffer) h in rw i.1.0 (omega (arith, i.1.1))
+
+-- what `reader::read` goes by
+pub ruleset answers = (gives, refused_answer, refused_output, small_answer, small_output, good_answer, good_fits)
 
 -- What the call's answer says of the text.
 

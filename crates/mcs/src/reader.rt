@@ -100,7 +100,7 @@ fn fill(digits: &Digits, text: &[u8], out: &mut [u8])
 
 // Reads a text into a buffer: how many bytes of the image are at its front; or refusal 14 to 19, and the buffer as it
 // was.
-#[tactic(auto, unfolding(base::specs::Question::ask), using(base::proofs::Laws::gives, crate::proofs::AnswerLaws::refused_answer, crate::proofs::AnswerLaws::refused_output, crate::proofs::AnswerLaws::small_answer, crate::proofs::AnswerLaws::small_output, crate::proofs::AnswerLaws::good_answer, crate::proofs::AnswerLaws::good_fits,))]
+#[tactic(auto, unfolding(base::specs::Question::ask), using(crate::proofs::AnswerLaws::answers))]
 pub fn read(text: &[u8], out: &mut [u8]) -> Result<usize, Refusal>
     ensures answer { Gives read_numbers result (read_answer text.now out.old) }
     ensures output { out.new ≡ read_output text.now out.old }

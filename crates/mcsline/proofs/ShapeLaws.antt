@@ -130,6 +130,9 @@ module _ (text : List ℕ) (at : ℕ) (inside : at < length text) where
   unfolding ShapeIs Summed
   some_shape sum colon summed some = (orderly text at inside (record { colon = colon; pairs = summed.0; ending = omega arith }), summed.1)
 
+-- what `line::shape_of` goes by
+pub ruleset shapes = (none_short, none_colon, none_room, none_pairs, none_ending, some_shape)
+
 -- the pairs of an orderly line are as many as its count says
 pub orderly_count : (text : List ℕ) (at count end : ℕ) → Orderly text at count end → length (line_pairs text at count) ≡ count_of (line_pairs text at count) + 5
 orderly_count text at count end o =
@@ -174,6 +177,9 @@ module _ (text : List ℕ) (at : ℕ) where
   summed_line shape h s =
       sym (ap₂ as_line (sym (parsed_typed (line_at text at) (line_pairs text at shape.count) h.0.spells (orderly_count text at shape.count shape.end h.0) (rw h.1 at s))) h.0.ends)
 
+-- what `line::parse` goes by
+pub ruleset shaped_lines = (shape_long, none_line, unsummed_line, summed_line)
+
 -- A sound line in the code's form: its pairs end within the text, and make its record, which is none that is refused.
 module _ (text : List ℕ) (at : ℕ) (inside : at < length text) (sound : Sound (line_at text at)) where
   pub sound_long : at + 2 * pair_at text (at + 1) + 12 ≤ length text
@@ -197,3 +203,6 @@ module _ (text : List ℕ) (at : ℕ) (inside : at < length text) (sound : Sound
       go (Ok (Data address bytes)) e = refl
       go (Ok (ExtendedLinearAddress half)) e = refl
       go (Ok End) e = refl
+
+-- what `line::parse_sound` goes by
+pub ruleset sound_lines = (sound_long, sound_line, sound_is)

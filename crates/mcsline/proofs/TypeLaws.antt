@@ -187,3 +187,6 @@ module _ (text : List ℕ) (at count end : ℕ) (counted : count ≡ pair_at tex
   other_typed f g h =
       let t : type_of (line_pairs text at count) ≡ pair_at text (at + 7) = type_is text at count in
       ap (λ (p : Parsed). as_line p end) (typed_other (line_pairs text at count) (λ z. f (sym t ∙ z)) (λ z. g (sym t ∙ z)) (λ z. h (sym t ∙ z)))
+
+-- what `line::typed_line` goes by
+pub ruleset typings = (data_typed, end_typed, extended_typed, other_typed)

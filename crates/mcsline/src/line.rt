@@ -61,7 +61,7 @@ fn ending(text: &[u8], at: usize) -> usize
 
 // The characters of the line at `at`: a colon, as many pairs as its count says and five more, and a
 // line end, so 12 characters at least.
-#[tactic(auto, using(crate::proofs::ShapeLaws::none_short, crate::proofs::ShapeLaws::none_colon, crate::proofs::ShapeLaws::none_room, crate::proofs::ShapeLaws::none_pairs, crate::proofs::ShapeLaws::none_ending, crate::proofs::ShapeLaws::some_shape,))]
+#[tactic(auto, using(crate::proofs::ShapeLaws::shapes))]
 fn shape_of(digits: &Digits, text: &[u8], at: usize) -> Option<Shape>
     requires { at < length text.now }
     ensures { ShapeIs text.now at result }
@@ -140,7 +140,7 @@ fn extended_address_line(
 }
 
 // The record of a line whose characters are in order.
-#[tactic(auto, using(crate::proofs::TypeLaws::data_typed, crate::proofs::TypeLaws::end_typed, crate::proofs::TypeLaws::extended_typed, crate::proofs::TypeLaws::other_typed,))]
+#[tactic(auto, using(crate::proofs::TypeLaws::typings))]
 fn typed_line(
     digits: &Digits,
     text: &[u8],
@@ -162,7 +162,7 @@ fn typed_line(
 }
 
 // The line at `at`: questions 14, 15 and 16.
-#[tactic(auto, using(crate::proofs::ShapeLaws::shape_long, crate::proofs::ShapeLaws::none_line, crate::proofs::ShapeLaws::unsummed_line, crate::proofs::ShapeLaws::summed_line,))]
+#[tactic(auto, using(crate::proofs::ShapeLaws::shaped_lines))]
 pub fn parse(digits: &Digits, text: &[u8], at: usize) -> Result<Line, Reason>
     requires { at < length text.now }
     ensures { result ≡ as_line (parsed (line_at text.now at)) (at + length (line_at text.now at)) }
@@ -175,7 +175,7 @@ pub fn parse(digits: &Digits, text: &[u8], at: usize) -> Result<Line, Reason>
 }
 
 // The same of a line that is known to pass them: nothing is tested again.
-#[tactic(auto, using(crate::proofs::ShapeLaws::sound_long, crate::proofs::ShapeLaws::sound_line, crate::proofs::ShapeLaws::sound_is,))]
+#[tactic(auto, using(crate::proofs::ShapeLaws::sound_lines))]
 pub fn parse_sound(digits: &Digits, text: &[u8], at: usize) -> Line
     requires { (at < length text.now) × Sound (line_at text.now at) }
     ensures { Ok result ≡ as_line (parsed (line_at text.now at)) (at + length (line_at text.now at)) }
