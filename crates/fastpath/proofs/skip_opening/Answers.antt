@@ -1,5 +1,5 @@
 -- `skip_opening` meets its contract: the type 1 header is passed, and then the packet that follows.
-use Prim.Native.Nat.{ℕ, ◌+◌, ◌%◌}
+use Prim.Native.Nat.{ℕ, ◌%◌}
 use mathlib.Core.Path.{◌≡◌, refl, sym, ap, ◌∙◌}
 use native.Mathlib.Omega.{arith}
 use Rattle.packets.specs.Header.{head_of}
@@ -11,13 +11,11 @@ use Rattle.fastpath.proofs.skip_opening.Goals as goal
 use Rattle.fastpath.proofs.skip_opening.Goals.{After-after_header-opened, After-min-room}
 
 -- what the type 1 header leaves
+
 opened : (c : After-after_header-opened) → SkipKeeps c.args.s.now c.args.w c.after_header-opened.result
 opened c =
     let p = c.requires in
     rw c.after_header-opened.ensures (past_empty _ _ _ p.0 (omega (arith, p.1)) p.3)
-
-place : (c : After-after_header-opened) → c.after_header-opened.result.at ≡ c.args.w.at + 4
-place c = ap (λ (w : Scanner). w.at) c.after_header-opened.ensures
 
 -- the type 2 header begins a packet of so many data words
 begins : (c : After-min-room) (count : ℕ) → c.word_at-word.result % 134217728 ≡ count → PacketBegins c.args.s.now c.after_header-opened.result c.args.register count
@@ -38,14 +36,8 @@ fits c count kept =
       there = λ h. omega (arith, h, room, c.words_from.ensures);
     }
 
-pub word_at-word-requires : goal.word_at-word-requires
-word_at-word-requires c = omega (arith, place (goal.at.word_at-word-requires c).After-after_header-opened, c.requires.1)
-
 pub returns-then-not-is_type2_write : goal.returns-then-not-is_type2_write
 returns-then-not-is_type2_write c = opened (goal.at.returns-then-not-is_type2_write c).After-after_header-opened
-
-pub overflow_add-opened : goal.overflow_add-opened
-overflow_add-opened c = omega (arith, place (goal.at.overflow_add-opened c).After-after_header-opened, c.requires.1, c.well_formed)
 
 pub skip_words-requires : goal.skip_words-requires
 skip_words-requires c = (fits (goal.at.skip_words-requires c).After-min-room _ (opened (goal.at.skip_words-requires c).After-after_header-opened), c.requires.2, λ h. begins (goal.at.skip_words-requires c).After-min-room 1 (omega (arith, c.if-word-eq-TYPE2_OF_ONE.true)))

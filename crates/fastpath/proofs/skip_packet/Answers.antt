@@ -8,11 +8,12 @@ use Rattle.packets.specs.Header.{register_ok, head_of}
 use Rattle.fastpath.specs.Fastpath.{PacketBegins, HasRoom}
 use Rattle.fastpath.specs.Types.{Type1}
 use Rattle.scanner.proofs.Laws.{least}
-use Rattle.fastpath.proofs.SkipLaws.{past_none, begins_type1}
+use Rattle.fastpath.proofs.SkipLaws.{begins_type1}
 use Rattle.fastpath.proofs.skip_packet.Goals as goal
 use Rattle.fastpath.proofs.skip_packet.Goals.{Else-not-is_type1_form, Else-not-register_ok, After-min-room}
 
 -- a type 1 write of the register that its field says, if that may be named, and of so many data words
+
 head-is : (c : Else-not-is_type1_form) (count : ℕ) → c.args.word % 2048 ≡ count → register_ok (c.args.word / 8192 % 32) ≡ true →
     head_of (word_at c.args.s.now c.args.w.at) ≡ Type1 (c.args.word / 8192 % 32) count
 head-is c count e ok =
@@ -38,21 +39,6 @@ fits c count =
       unwanted = omega (arith, room);
       there = λ h. omega (arith, h, room, c.words_from.ensures);
     }
-
-pub skip_nops-requires : goal.skip_nops-requires
-skip_nops-requires c = let p = c.requires in (p.0, omega (arith, p.1), sym p.2 ∙ c.if-word-eq-NOP.true)
-
-pub returns-then-not-is_type1_form : goal.returns-then-not-is_type1_form
-returns-then-not-is_type1_form c = past_none _ _ c.requires.0
-
-pub skip_one-requires : goal.skip_one-requires
-skip_one-requires c = let p = c.requires in (p.0, p.1, omega arith, head-is (goal.at.skip_one-requires c).Else-not-is_type1_form 1 c.if-count-eq1.true)
-
-pub returns-then-not-register_ok : goal.returns-then-not-register_ok
-returns-then-not-register_ok c = past_none _ _ c.requires.0
-
-pub skip_opening-requires : goal.skip_opening-requires
-skip_opening-requires c = let p = c.requires in (p.0, p.1, omega arith, head-is (goal.at.skip_opening-requires c).Else-not-is_type1_form 0 c.if-count-eq0.true (may (goal.at.skip_opening-requires c).Else-not-register_ok))
 
 pub skip_words-requires : goal.skip_words-requires
 skip_words-requires c = (fits (goal.at.skip_words-requires c).After-min-room _, omega arith, begins (goal.at.skip_words-requires c).Else-not-is_type1_form 2 c.if-count-eq2.true (may (goal.at.skip_words-requires c).Else-not-register_ok))

@@ -8,6 +8,3 @@ skip_counted-requires c =
     let p = c.requires in
     let plain = sym c.is_plain_register.ensures ∙ c.if-is_plain_register.true in
     (p.0, λ h. plain_begins _ _ _ _ plain (λ ok. p.2 h))
-
-pub skip_data-requires : goal.skip_data-requires
-skip_data-requires c = let p = c.requires in (p.0, p.2)
