@@ -15,6 +15,7 @@ use Rattle.writes.proofs.next.next_data.Goals as goal
 use Rattle.writes.proofs.next.next_data.Goals.{Then-words_from-gt0}
 
 -- the header's word is there, and lies whole within the bytes
+
 fits : (c : Then-words_from-gt0) → (0 < length (words (drop c.args.from c.args.s.now))) × (c.args.from + 4 ≤ length c.args.s.now)
 fits c = (omega (arith, c.words_from.ensures), omega (arith, room c.args.s.now c.args.from, c.words_from.ensures))
 
@@ -23,9 +24,6 @@ word_at-word-requires c = (fits (goal.at.word_at-word-requires c).Then-words_fro
 
 pub overflow_add-result : goal.overflow_add-result
 overflow_add-result c = omega (arith, (fits (goal.at.overflow_add-result c).Then-words_from-gt0).1, c.well_formed)
-
-pub overflow_sub-result : goal.overflow_sub-result
-overflow_sub-result c = omega (arith, (c.begins_packet.ensures c.if-begins_packet.true).1)
 
 pub returns-then-begins_packet : goal.returns-then-begins_packet
 unfolding after_header step_at

@@ -18,9 +18,3 @@ returns-in-Fault c = λ s. rw c.in-Fault.is refl
 pub returns-in-Short : goal.returns-in-Short
 unfolding scanned_by
 returns-in-Short c = λ s. rw c.in-Short.is refl
-
-pub returns-in-Going : goal.returns-in-Going
-returns-in-Going c = absurd (c.requires.0 c.in-Going.is)
-
-pub returns-in-Reached : goal.returns-in-Reached
-returns-in-Reached c = absurd (c.requires.1 c.in-Reached.is)
