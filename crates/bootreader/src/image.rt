@@ -23,31 +23,31 @@ pub struct Accepted {
     pub writes: usize,
 }
 
-// What a reading of an image alone loads; or refusal 5 or 6, at its faulty word.
+// The refusal of an image whose reading alone is not Loaded: 6 at an IPROG, 5 at every other fault.
 #[tactic(auto, unfolding(crate::specs::Image::alone_case))]
-fn accept(outcome: Outcome) -> Result<Accepted, Refusal>
-    ensures { result ≡ alone_case refused accepted outcome }
+fn fault_of(outcome: Outcome) -> Refusal
+    ensures { result ≡ alone_case (λ reason place. record { reason = reason; place = place }) (λ sync end writes. result) outcome }
 {
     match outcome {
-        Outcome::Loaded {
-            sync,
-            end,
-            writes,
-            jumped: _,
-        } => Ok(Accepted { sync, end, writes }),
-        Outcome::Iprog { place } => Err(Refusal {
+        Outcome::Iprog { place } => Refusal {
             reason: Reason::ImageJumps,
             place,
-        }),
-        Outcome::Stuck { place } => Err(Refusal {
+        },
+        Outcome::Stuck { place } => Refusal {
             reason: Reason::ImageFault,
             place,
-        }),
+        },
+        // never asked: a reading that is Loaded is accepted
+        Outcome::Loaded { end, .. } => Refusal {
+            reason: Reason::ImageFault,
+            place: end,
+        },
     }
 }
 
 // What an image loads by itself, for an area of `longest` bytes: sync, end, writes; or refusal 4, 5 or 6.
-#[tactic(auto, unfolding(base::specs::Question::ask), using(base::proofs::Laws::gives))]
+// Stays: document 01, "Language forms", holds it: the check takes the reader's enum apart with let .. else.
+#[tactic(auto, unfolding(crate::specs::Image::alone_case, base::specs::Question::ask), using(base::proofs::Laws::gives))]
 pub fn check_within(image: &[u8], longest: usize) -> Result<Accepted, Refusal>
     ensures { Gives image_numbers result (image_within spi longest image.now) }
 {
@@ -55,7 +55,17 @@ pub fn check_within(image: &[u8], longest: usize) -> Result<Accepted, Refusal>
         image_length_allowed(longest, image.len()),
         Reason::BadImageLength,
     )?;
-    accept(read_alone(image))
+    let outcome = read_alone(image);
+    let Outcome::Loaded {
+        sync,
+        end,
+        writes,
+        jumped: _,
+    } = outcome
+    else {
+        return Err(fault_of(outcome));
+    };
+    Ok(Accepted { sync, end, writes })
 }
 
 // What an image loads by itself, with no area that it must fit into: sync, end, writes; or refusal 4, 5 or 6.
