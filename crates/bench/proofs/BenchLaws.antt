@@ -12,7 +12,7 @@ use Rattle.base.specs.Refusal.{refused}
 use Rattle.base.specs.Question.{ask}
 use Rattle.kind.specs.Layout.{chip_length_allowed, image_length_allowed, page, segment, switch_at, update_place_allowed, update_length_allowed, ask_layout}
 use Rattle.bootreader.specs.Image.{alone_case}
-use Rattle.bench.specs.Types.{Reason, BadChipLength, BadUpdatePlace, BadUpdateLength, BadImageLength, Refusal, Outcome, Loaded, OutcomeIprog, Stuck, Layout, State, Operation, Erase, Program, Look}
+use Rattle.bench.specs.Types.{BadChipLength, BadUpdatePlace, BadUpdateLength, BadImageLength, Refusal, Outcome, Loaded, OutcomeIprog, Stuck, Layout, State, Operation, Erase, Program, Look}
 use Rattle.kind.proofs.Laws.{chip_length_range, update_place_range}
 use Rattle.flash.specs.Flash.{erased, span, overwrite_in_range, cleared, after_program}
 use Rattle.kind.specs.Kind.{Kind}
@@ -29,7 +29,7 @@ use Rattle.bench.specs.Bench.{span_allows, damage_allowed, cut_allowed, cut_in}
 use Rattle.orders.proofs.Laws.{phases, orders_length}
 use Rattle.updater.proofs.Laws.{fits_says, running_says, first_fits, index_at, current_order_law, orders_left}
 use Rattle.effects.proofs.Laws.{Blank, order_within, span_size, Reaches, reached, chip_all, chip_length_law, chip_blank, current_within, numbers_at}
-use Rattle.base.proofs.Laws.{asked, below_or_not}
+use Rattle.base.proofs.Laws.{below_or_not}
 use Rattle.bench.proofs.MixtureLaws.{allows_enough, allows_elsewhere, allows_swap}
 
 -- QUESTION 10 as it can be asked before the run: the bytes that are not FF are the chip's own in the erase of segment 0, and ON in the program of the switch word.
@@ -182,7 +182,7 @@ pub record CutAt (begun : State) (image : List ℕ) (cut : ℕ) (state : State) 
   pub long : (chip : List ℕ) → begun.layout.chip_length ≡ length chip → length (chip_after spi begun.layout image cut chip) ≡ length chip
 
 pub cut_at : (begun : State) (image : List ℕ) (cut : ℕ) (state : State) → begun ≡ first begun.layout (length image) → fits begun (length image) ≡ true →
-    state ≡ state_after (min cut (total begun.layout begun.image_length)) begun → CutAt begun image cut state
+    state ≡ state_after (min cut (total begun.layout (length image))) begun → CutAt begun image cut state
 cut_at begun image cut state opens fit comes = record {
   is = reaches.is;
   fit = reaches.fit;
@@ -201,7 +201,7 @@ cut_at begun image cut state opens fit comes = record {
     reaches : Reaches begun.layout (length image) k state
     reaches =
         subst (Reaches begun.layout (length image) k)
-        (sym (comes ∙ ap₂ (λ (n : ℕ) (s : State). state_after (min cut (total begun.layout n)) s) (fits_says begun (length image) fit).same opens))
+        (sym (comes ∙ ap (λ (s : State). state_after k s) opens))
         (reached begun.layout (length image) first_fit k (omega arith))
 
     which : (k ≡ cut) ⊎ ((k ≡ total begun.layout (length image)) × (k ≤ cut))
@@ -214,20 +214,6 @@ cut_at begun image cut state opens fit comes = record {
 
     to_cut : (chip : List ℕ) → chip_after spi begun.layout image k chip ≡ chip_after spi begun.layout image cut chip
     to_cut chip = ⊎_elim (ap (λ (i : ℕ). chip_after spi begun.layout image i chip)) (λ e. chip_all spi begun.layout image chip k cut e.0 e.1) which
-
--- A question that `?` takes up: a no is the answer, and a yes goes on.
-module _ {A : Type 0} (b : Bool) (reason : Reason) where
-  pub no_said : (r : Refusal) (rest : Result A Refusal) → ask b (refused reason 0) (Ok tt) ≡ Err r → ask b (refused reason 0) rest ≡ Err r
-  unfolding ask
-  no_said r rest e = go b e
-    where
-      go : (b : Bool) → ◌≡◌ {A = Result (Unit {0}) Refusal} (ask b (refused reason 0) (Ok tt)) (Err r) → ask b (refused reason 0) rest ≡ Err r
-      go true e = cc
-      go false e = cc
-
-  pub yes_said : (done : Unit {0}) → ask b (refused reason 0) (Ok tt) ≡ Ok done → b ≡ true
-  unfolding ask
-  yes_said done e = (asked b _ _ _ e (λ q. cc)).0
 
 -- THE START. What a start's answer comes to for one who asks more,
 unfoldable pub on_start : {A : Type 0} → Result A Refusal → Result State Refusal → Result A Refusal

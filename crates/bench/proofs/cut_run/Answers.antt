@@ -4,6 +4,7 @@ use mathlib.Core.Path.{◌≡◌, sym, ap, ap₂, subst, ◌∙◌}
 use mathlib.Core.Bool.{true}
 use mathlib.Core.List.{List}
 use lib.ListN.{length, drop}
+use Rattle.std.proofs.Common.{rules}
 use Rattle.base.proofs.Laws.{gives}
 use Rattle.std.specs.Prelude.{Result, Ok, Err}
 use Rattle.base.specs.Refusal.{refused}
@@ -40,10 +41,13 @@ begun_first layout image state e =
       subst (λ (s : State). fits s (length image) ≡ true) (sym o.begins) (first_fits layout (length image) o.numbers),
     )
 
+pub invariant_of-cut_begun : goal.invariant_of-cut_begun
+invariant_of-cut_begun c = record { fits = (begun_first c.layout-layout.result c.args.image.now _ (sym c.start.ensures.same ∙ c.in_ok-state.was)).2 }
+
 pub cut_begun-requires : goal.cut_begun-requires
 cut_begun-requires c =
-    let b = begun_first c.layout-layout.result c.args.image.now _ (sym c.start-begun.ensures.same ∙ c.in_ok-begun.was) in
-    (b.1, b.2, ap (λ (l : Layout). l.chip_length) (b.0 ∙ c.layout-layout.ensures))
+    let b = begun_first c.layout-layout.result c.args.image.now _ (sym c.start.ensures.same ∙ c.in_ok-state.was) in
+    record { begins = b.1; long = ap (λ (l : Layout). l.chip_length) (b.0 ∙ c.layout-layout.ensures) }
 
 pub returns : goal.returns
 unfolding on_start
@@ -52,7 +56,7 @@ returns c =
     let chip = a.chip.now in
     let image = a.image.now in
     let damage = a.damage.now in
-    let e = sym c.start-begun.ensures.same ∙ c.in_ok-begun.was in
+    let e = sym c.start.ensures.same ∙ c.in_ok-state.was in
     let b = begun_first c.layout-layout.result image _ e in
     let l = c.layout-layout.ensures in
     let r = c.cut_begun.ensures.answer
@@ -64,16 +68,17 @@ returns c =
       output = c.cut_begun.ensures.output ∙ ap₂ (λ (y : Result State Refusal) (x : Layout). bench_output y spi x chip image a.cut damage) r (b.0 ∙ l);
     }
 
-pub returns-in_err-begun : goal.returns-in_err-begun
+pub returns-in_err-state : goal.returns-in_err-state
 unfolding on_start bench_output
-returns-in_err-begun c =
+returns-in_err-state c =
     let a = c.args in
     let chip = a.chip.now in
     let image = a.image.now in
     let damage = a.damage.now in
-    let e = sym c.start-begun.ensures.same ∙ c.in_err-begun.was in
+    let same : c.from_residual.result ≡ Err c.in_err-state.field-0.0 = search rules in
+    let e = sym c.start.ensures.same ∙ c.in_err-state.was in
     let r = by-begun c.layout-layout.result chip image a.cut damage _ e ∙ ap (λ (x : Layout). bench_answer spi x chip image a.cut damage) c.layout-layout.ensures in
     record {
-      answer = gives bench_numbers _ _ r;
+      answer = gives bench_numbers _ _ (same ∙ r);
       output = ap (λ (y : Result State Refusal). bench_output y spi (layout_of (length chip) a.update_place a.update_length) chip image a.cut damage) r;
     }
