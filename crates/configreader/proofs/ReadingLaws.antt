@@ -44,6 +44,10 @@ module _ (on_jump : ℕ → ℕ → Outcome) (jumped : Bool) (s : List ℕ) (fro
   unfolding search_from
   search_none e = rw (e, search_from)
 
+-- A sync word that is found stands whole in the bytes.
+pub sync_inside : (s : List ℕ) (from sync : ℕ) → from ≤ length s → find (drop from s) from ≡ Some sync → sync + 4 ≤ length s
+sync_inside s from sync l e = let w = find_within (drop from s) from sync e in omega (arith, length-drop from s)
+
 far_by : (left : ℕ) (s : List ℕ) (place to : ℕ) → (left ≡ 0 → ⊥) → ltb to (length s) ≡ false → jump left s place to ≡ Stuck place
 unfolding jump
 far_by zero s place to h e = absurd (h refl)
@@ -90,7 +94,7 @@ unfolding Proper
 proper_search on_jump jumped s from h l = go (find (drop from s) from) refl
   where
     go : (f : Option ℕ) → find (drop from s) from ≡ f → Proper s (search_from on_jump jumped s from)
-    go (Some sync) e = rw (search_found on_jump jumped s from sync e) (proper_at on_jump jumped s sync h (let w : (from ≤ sync) × (sync + 4 ≤ from + length (drop from s)) = find_within (drop from s) from sync e in omega (arith, length-drop from s)))
+    go (Some sync) e = rw (search_found on_jump jumped s from sync e) (proper_at on_jump jumped s sync h (sync_inside s from sync l e))
     go None e = rw (search_none on_jump jumped s from e) (omega arith)
 
 proper_jump : (left : ℕ) (s : List ℕ) (place to : ℕ) → place ≤ length s → Proper s (jump left s place to)

@@ -45,6 +45,7 @@ pub fn read_alone(image: &[u8]) -> Outcome
 }
 
 #[cycle(read_search)]
+#[tactic(auto, unfolding(crate::specs::Configreader::search_from), using(crate::proofs::ReadingLaws::sync_inside))]
 fn search(s: &[u8], from: usize, jumps: u32, jumped: bool) -> Outcome
     requires { from ≤ length s.now }
     ensures { result ≡ read_from jumps jumped s.now from }
@@ -56,6 +57,7 @@ fn search(s: &[u8], from: usize, jumps: u32, jumped: bool) -> Outcome
 }
 
 #[cycle(read_search)]
+#[tactic(auto, unfolding(crate::specs::Configreader::read_at), using(crate::proofs::ReadingLaws::jump_none, crate::proofs::ReadingLaws::jump_far, crate::proofs::ReadingLaws::jump_on))]
 fn read(s: &[u8], sync: usize, jumps: u32, jumped: bool) -> Outcome
     requires { sync + 4 ≤ length s.now }
     ensures { result ≡ read_at (jump jumps s.now) jumped s.now sync }
