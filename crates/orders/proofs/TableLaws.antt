@@ -18,10 +18,6 @@ phases P a b c d e f g (suc (suc (suc (suc (suc zero))))) h = f
 phases P a b c d e f g (suc (suc (suc (suc (suc (suc zero)))))) h = g
 phases P a b c d e f g (suc (suc (suc (suc (suc (suc (suc phase))))))) h = absurd (omega arith)
 
--- n/256 rounded up, in parts that cannot wrap.
-pub rounded_up : (n : ℕ) → n / 256 + (n % 256 + 255) / 256 ≡ (n + 255) / 256
-rounded_up n = omega arith
-
 -- No phase but the seven has an order,
 pub count_none : (layout : Layout) (n phase : ℕ) → (phase ≡ 0 → ⊥) → (phase ≡ 1 → ⊥) → (phase ≡ 2 → ⊥) → (phase ≡ 3 → ⊥) → (phase ≡ 4 → ⊥) → (phase ≡ 5 → ⊥) → (phase ≡ 6 → ⊥) → count layout n phase ≡ 0
 unfolding count by_phase

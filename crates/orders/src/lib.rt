@@ -11,7 +11,6 @@ ghost use Rattle.orders.specs.Table.{count, count_before};
 ghost use Rattle.orders.specs.Orders.{page_of, order_of, operation_of, order_bytes};
 ghost use Rattle.orders.specs.Carried.{carried};
 
-use base::min;
 use comparison::padded_page;
 use kind::layout::Layout;
 use kind::spi::Spi;
@@ -30,6 +29,7 @@ pub enum Operation {
 // How many orders a phase has.
 // Stays: State (updater; its calls answer refusal 7 for every phase, and hand every state back) holds it that a phase is a
 // number here and in the functions below.
+#[tactic(auto, unfolding(crate::specs::Table::count, crate::specs::Table::by_phase), using(crate::proofs::TableLaws::count_none))]
 pub fn orders_in(layout: Layout, image_length: usize, phase: u32) -> usize
     ensures { result ≡ count layout image_length phase }
 {
@@ -37,7 +37,7 @@ pub fn orders_in(layout: Layout, image_length: usize, phase: u32) -> usize
         0 => 1,
         1 => Spi::SEGMENT / Spi::PAGE,
         2 => layout.update_length / Spi::SEGMENT,
-        3 => image_length / Spi::PAGE + (image_length % Spi::PAGE + 255) / Spi::PAGE,
+        3 => image_length.div_ceil(Spi::PAGE),
         4 => layout.update_length / Spi::PAGE,
         5 => 1,
         6 => 1,
@@ -59,6 +59,7 @@ pub fn orders_before(layout: Layout, image_length: usize, phase: u32) -> usize
 }
 
 // An order of a phase, as far as it can be said without the bytes that it programs.
+#[tactic(auto, unfolding(crate::specs::Orders::order_of, crate::specs::Table::by_phase, crate::specs::Orders::operation_of), using(crate::proofs::OrderLaws::page_length, comparison::proofs::Laws::padded_length))]
 pub fn operation_at(layout: Layout, image_length: usize, phase: u32, index: usize) -> Operation
     requires { (index < count layout image_length phase) × (layout.update_place + page * index < longest_chip) }
     ensures { (image : List ℕ) → length image ≡ image_length → result ≡ operation_of (order_of spi layout image phase index) }
@@ -79,7 +80,7 @@ pub fn operation_at(layout: Layout, image_length: usize, phase: u32, index: usiz
         },
         3 => Operation::Program {
             place: page,
-            length: min(image_length - Spi::PAGE * index, Spi::PAGE),
+            length: (image_length - Spi::PAGE * index).min(Spi::PAGE),
         },
         4 => Operation::Look {
             place: page,
@@ -97,16 +98,18 @@ pub fn operation_at(layout: Layout, image_length: usize, phase: u32, index: usiz
 }
 
 // A page of an image: the last is what remains, and there is nothing after it.
+#[tactic(auto, using(crate::proofs::OrderLaws::page_part))]
 fn image_page<'a>(image: &'a [u8], index: usize) -> &'a [u8]
     requires { page * index < longest_chip }
     ensures { result.now ≡ page_of image.now index }
 {
-    let from = min(Spi::PAGE * index, image.len());
-    let to = min(from + Spi::PAGE, image.len());
+    let from = image.len().min(Spi::PAGE * index);
+    let to = image.len().min(from + Spi::PAGE);
     &image[from..to]
 }
 
 // What an order programs, or looks for before the FF: a page of the image, ON, or nothing.
+#[tactic(auto, using(crate::proofs::CarriedLaws::carried_page, crate::proofs::CarriedLaws::carried_on, crate::proofs::CarriedLaws::carried_none))]
 pub fn carried_bytes<'a>(image: &'a [u8], phase: u32, index: usize, on: &'a [u8]) -> &'a [u8]
     requires { (page * index < longest_chip) × (on.now ≡ spi_on) }
     ensures { result.now ≡ carried spi image.now phase index }
@@ -119,6 +122,7 @@ pub fn carried_bytes<'a>(image: &'a [u8], phase: u32, index: usize, on: &'a [u8]
 }
 
 // The bytes that an order programs, then FF; all FF where it programs nothing.
+#[tactic(auto, using(crate::proofs::CarriedLaws::programs, crate::proofs::CarriedLaws::programs_none, crate::proofs::CarriedLaws::carried_length))]
 pub fn bytes_at(image: &[u8], phase: u32, index: usize) -> [u8; 256]
     requires { page * index < longest_chip }
     ensures { (layout : Layout) → result ≡ order_bytes (order_of spi layout image.now phase index) }

@@ -147,12 +147,7 @@ impl State {
     // The next state; or a stop, 10 to 12, with the state that has ended; or refusal 7, 8 or 9 with the state that
     // was given. The image is the run's: it is lent again, so that what a look is to find is always the image's own
     // bytes.
-    pub fn reply(
-        self,
-        image: &[u8],
-        reply_kind: u32,
-        bytes: &[u8],
-    ) -> Result<Reply, RefusedReply>
+    pub fn reply(self, image: &[u8], reply_kind: u32, bytes: &[u8]) -> Result<Reply, RefusedReply>
         ensures { Gives reply_numbers result (reply_answer spi self image.now reply_kind bytes.now) }
     {
         match self.ask_running(image.len()) {

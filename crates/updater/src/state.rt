@@ -38,7 +38,8 @@ fn phase_consistent(state: State) -> bool
     ensures { result ≡ phase_consistent state }
 {
     if state.phase < 7 {
-        return state.index < orders_in(state.layout, state.image_length, state.phase) && state.outcome == 0;
+        return state.index < orders_in(state.layout, state.image_length, state.phase)
+            && state.outcome == 0;
     }
     state.phase == 7 && state.index == 0 && outcome_allowed(state.outcome)
 }

@@ -1,6 +1,5 @@
 -- `orders_before` meets its contract: the counts of the phases, added up.
 use Prim.Native.Nat.{◌+◌, ◌≤◌}
-use mathlib.Core.Path.{◌≡◌}
 use native.Mathlib.Omega.{arith}
 use Rattle.orders.specs.Table.{count_before, total}
 use Rattle.orders.proofs.TableLaws.{before_next, before_total, total_is}
