@@ -1,7 +1,7 @@
 -- `Digits::decode` meets its contract. The loop's invariant: the buffer with the first i bytes of the pairs put in.
 use Rattle.digits.proofs.PairLaws.{length_pairs, get_or_pairs}
 use Rattle.digits.specs.Pairs.{IsPair, pairs_at}
-use lib.Seq.{paste-zero, paste-suc}
+use lib.Seq.{paste-suc}
 use lib.ListN.{length, get_or}
 use native.Mathlib.Omega.{arith}
 use native.Mathlib.Numerals.{add-one}
@@ -9,9 +9,6 @@ use native.Mathlib.Nat.{mod-eq_of_lt}
 use mathlib.Core.Path.{◌≡◌, sym, ◌∙◌}
 use Prim.Native.Nat.{◌+◌, ◌*◌, ◌%◌}
 use Rattle.digits.proofs.table.Digits.decode.Goals as goal
-
-pub loop-i-init : goal.loop-i-init
-loop-i-init c = paste-zero c.args.out.now c.args.to (pairs_at c.args.text.now c.args.from c.args.bytes)
 
 pub loop-i-preserved : goal.loop-i-preserved
 loop-i-preserved c =
