@@ -68,6 +68,7 @@ pub fn is_canonical(text: &[u8]) -> bool
     let mut at = 0;
     let mut next = 0;
     let mut upper = false;
+    // Stays: no plainer: an iterator of lines would carry each line's place and its end beside it, and promise all that `parse` does.
     while at < text.len() {
         let Ok(line) = parse(&digits, text, at) else {
             return false;

@@ -4,6 +4,7 @@ ghost use Rattle.digits.specs.Digit.{digits};
 
 // The characters of the digits, by value. Made once for many digits, they cost less than a comparison and a sum for each:
 // of those the compiler makes many more instructions, all digits of a number at once.
+#[tactic(auto, unfolding(crate::specs::Digit::digits))]
 pub fn characters() -> [u8; 16]
     ensures { result ≡ digits }
 {

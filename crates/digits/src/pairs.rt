@@ -43,6 +43,7 @@ impl Digits {
         Some(sum)
     }
 
+    // Stays: no plainer: as slices in place of the places in them, the caller would cut both out, the buffer's at bounds of its own to prove.
     // Decodes pairs from `from` into as many bytes at `to`.
     pub fn decode(&self, text: &[u8], from: usize, out: &mut [u8], to: usize, bytes: usize)
         requires { (from + 2 * bytes ≤ length text.now) × (to + bytes ≤ length out.old) × ArePairs text.now from bytes }

@@ -28,6 +28,7 @@ pub struct Digits {
 }
 
 impl Digits {
+    #[tactic(auto, using(crate::proofs::TableLaws::digit_table), unfolding(crate::proofs::TableLaws::values))]
     pub fn new() -> Self {
         Digits { values: VALUES }
     }
@@ -38,6 +39,6 @@ impl Digits {
         ensures value { result ≡ digit_of c }
         ensures range { result ≤ 16 }
     {
-        self.values[c as usize] as u32
+        u32::from(self.values[usize::from(c)])
     }
 }

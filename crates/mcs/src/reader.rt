@@ -32,6 +32,7 @@ fn size_of(digits: &Digits, text: &[u8]) -> Result<usize, Refusal>
     let mut at = 0;
     let mut upper = 0;
     let mut next = 0;
+    // Stays: no plainer: an iterator of lines would carry each line's place and its end beside it, and promise all that `parse` does.
     while at < text.len() {
         let line = parse(digits, text, at).map_err(|reason| Refusal { reason, place: at })?;
         match line {
@@ -77,6 +78,7 @@ fn fill(digits: &Digits, text: &[u8], out: &mut [u8])
 {
     let mut at = 0;
     let mut next = 0;
+    // Stays: no plainer: an iterator of lines would carry each line's place and its end beside it, and promise all that `parse` does.
     while at < text.len() {
         match parse_sound(digits, text, at) {
             Line::Data {

@@ -40,6 +40,9 @@ pub enum Line {
     },
 }
 
+// Stays: no plainer: a struct of the table, the text and a place within it, of which four contracts below ask that it is within, would be
+// made for each call of `parse` and taken apart in each function.
+
 // The length of the line end at `at`: LF or CR LF, or 0 for none.
 #[tactic(auto, unfolding(crate::specs::Place::ending_of))]
 fn ending(text: &[u8], at: usize) -> usize
@@ -47,16 +50,11 @@ fn ending(text: &[u8], at: usize) -> usize
     ensures value { result ≡ ending_at text.now at }
     ensures range { result ≤ 2 }
 {
-    if text[at] == LF {
-        return 1;
+    match &text[at..] {
+        [LF, ..] => 1,
+        [CR, LF, ..] => 2,
+        _ => 0,
     }
-    if text[at] != CR {
-        return 0;
-    }
-    if text.len() - at < 2 {
-        return 0;
-    }
-    if text[at + 1] == LF { 2 } else { 0 }
 }
 
 // The characters of the line at `at`: a colon, as many pairs as its count says and five more, and a
@@ -175,6 +173,7 @@ pub fn parse(digits: &Digits, text: &[u8], at: usize) -> Result<Line, Reason>
 }
 
 // The same of a line that is known to pass them: nothing is tested again.
+// Stays: no plainer: one function for both would take a flag, and its callers a refusal that cannot be.
 #[tactic(auto, using(crate::proofs::ShapeLaws::sound_lines))]
 pub fn parse_sound(digits: &Digits, text: &[u8], at: usize) -> Line
     requires { (at < length text.now) × Sound (line_at text.now at) }
