@@ -40,6 +40,7 @@ pub struct Scanner {
 }
 
 // How many of the first `most` data words leave the reading going on, up to the first that does not.
+#[tactic(auto, using(framing::proofs::Laws::room, framing::proofs::Laws::word_after, crate::proofs::ScanLaws::other_plain))]
 pub fn count_plain_words(s: &[u8], at: usize, register: u32, most: usize) -> usize
     requires { most ≤ length (words (drop at s.now)) }
     ensures within { result ≤ most }
@@ -107,6 +108,7 @@ pub fn header_step(s: &[u8], w: Scanner) -> Scanner
 }
 
 // The scanner at the end that the data word after `run` more brings.
+#[tactic(auto, using(framing::proofs::Laws::word_after), unfolding(crate::specs::Scan::scanner_at_end))]
 fn scan_end(s: &[u8], w: Scanner, run: usize) -> Scanner
     requires { (w.at + 4 * run + 4 ≤ length s.now) × (w.writes ≤ w.at) }
     ensures { result ≡ scanner_at_end w run (effect_of w.register (get_or (words (drop w.at s.now)) run 0)) }

@@ -50,6 +50,7 @@ impl Cursor {
 }
 
 // The cursor after a write: nothing is to come after one that ends the reading or jumps.
+#[tactic(auto, unfolding(crate::specs::Cursor::after_write))]
 pub(crate) fn after_write(write: Write, left: usize, remaining: usize) -> Cursor
     requires { write.place + 4 < 2 ^ 64 }
     ensures { result ≡ after_write write left remaining }

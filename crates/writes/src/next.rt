@@ -63,6 +63,7 @@ fn next_data(s: &[u8], from: usize) -> Option<DataWord>
 }
 
 // A cursor's next data word: where the cursor is, within a packet, or after headers.
+#[tactic(auto, using(crate::proofs::NextLaws::some_payload), unfolding(packets::specs::Trace::mode_of, crate::specs::Next::step_at))]
 pub fn next_of(s: &[u8], cursor: Cursor) -> Option<DataWord>
     ensures { (n : ℕ) → step_at s.now result n ≡ first_of (trace_at s.now cursor) n }
 {

@@ -41,6 +41,7 @@ pub fn write_at(s: &[u8], w: Scanner) -> Write
 }
 
 // How the packets ended, of a scanner that has stopped and is at no write.
+#[tactic(auto, unfolding(scanner::specs::Scan::scanned_by))]
 fn finish_of(w: Scanner) -> Finish
     requires { (w.status ≡ Going → ⊥) × (w.status ≡ AtWrite → ⊥) }
     ensures { (s : List ℕ) → scan_of s w ≡ ScanFinished result }
