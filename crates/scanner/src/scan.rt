@@ -140,6 +140,7 @@ fn reached(w: Scanner, run: usize) -> Scanner
 }
 
 // The scanner after all data words of its packet.
+#[tactic(auto, using(framing::proofs::Laws::word_after))]
 pub fn after_packet(s: &[u8], w: Scanner) -> Scanner
     requires { (1 ≤ w.left) × (w.at + 4 * w.left ≤ length s.now) × (w.left ≤ w.skip) × (w.writes ≤ w.at) }
     ensures { result ≡ scanner_after_packet s.now w }

@@ -41,6 +41,7 @@ impl Cursor {
 
     // The next write of the bytes that the cursor was opened on. `writes_after_step` says it of all that are to
     // come: this write, and then those of the cursor handed back, are those of this cursor.
+    #[tactic(auto, using(base::proofs::Laws::gives, crate::proofs::NextLaws::next_step, crate::proofs::CursorLaws::step_remaining))]
     pub fn step(self, s: &[u8]) -> Option<Step>
         ensures gives { Gives step_numbers result (step_of s.now self) }
         ensures lists { writes_after_step s.now result ≡ remaining_writes s.now self }

@@ -46,6 +46,7 @@ fn begins_packet(word: u32) -> bool
 }
 
 // The first data word of the packets from `from` on. Most often it comes after one header, and nothing is scanned for.
+#[tactic(auto, using(framing::proofs::Laws::room, crate::proofs::NextLaws::past_header, crate::proofs::NextLaws::some_payload), unfolding(packets::specs::Trace::after_header, crate::specs::Next::step_at))]
 fn next_data(s: &[u8], from: usize) -> Option<DataWord>
     ensures { (n : ℕ) → step_at s.now result n ≡ first_of (trace_from s.now from) n }
 {
@@ -78,6 +79,7 @@ pub fn next_of(s: &[u8], cursor: Cursor) -> Option<DataWord>
 }
 
 // The step to a data word, of a cursor with `remaining` writes to come.
+#[tactic(auto, using(framing::proofs::Laws::room, crate::proofs::NextLaws::no_word, crate::proofs::NextLaws::data_word, crate::proofs::NextLaws::no_data, crate::proofs::NextLaws::step_more_law), unfolding(crate::specs::Next::step_at, crate::specs::Next::step_with))]
 pub fn step_at(s: &[u8], next: Option<DataWord>, remaining: usize) -> Option<Step>
     ensures { result ≡ step_with s.now next remaining }
 {

@@ -12,6 +12,7 @@ use scanner::scan::{Scanner, Status, data_step, from_sync, header_step};
 
 // The packets from `from` on, to the write after `skip` others or to their end: the scanner where it stops. It is made here,
 // and not lent, so that a call is short and the first step goes by what is known of it.
+#[tactic(auto, unfolding(scanner::specs::Scan::InBoundsBy, scanner::specs::Scan::bytes_left))]
 pub fn scan(s: &[u8], from: usize, skip: usize) -> Scanner
     ensures stopped { result.status ≡ Going → ⊥ }
     ensures bounds { InBounds (length s.now) result }
@@ -64,6 +65,7 @@ fn finish_of(w: Scanner) -> Finish
 }
 
 // How the packets from `from` on end. No scanner passes as many writes as there are bytes.
+#[tactic(auto, using(scanner::proofs::Laws::finish_scan, scanner::proofs::Laws::at_write))]
 pub fn finish_from(s: &[u8], from: usize) -> Finish
     ensures { result ≡ finish_from s.now from }
 {
