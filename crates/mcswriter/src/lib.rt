@@ -14,6 +14,7 @@ use kind::spi::Spi;
 use recordwriter::part::{put_end, put_part};
 
 // How long the line of a record shorter than 16 bytes is; 0 where there is none.
+#[tactic(auto, using(canonical::proofs::Laws::shorter, crate::proofs::WriterLaws::no_shorter))]
 fn shorter_length(count: usize) -> usize
     requires { count < 16 }
     ensures value { result ≡ shorter_length count }
@@ -47,6 +48,7 @@ fn put_text(image: &[u8], out: &mut [u8])
 }
 
 // How long the text of an image of so many bytes is; or refusal 4.
+#[tactic(auto, unfolding(crate::specs::Mcswriter::length_answer, base::specs::Question::ask), using(base::proofs::Laws::gives, crate::proofs::WriterLaws::writable_short))]
 pub fn text_length(image_length: usize) -> Result<usize, Refusal>
     ensures { Gives text_numbers result (length_answer image_length) }
 {
