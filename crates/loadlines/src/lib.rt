@@ -70,7 +70,14 @@ fn put_end(page: &mut Page<'_>, end: usize, writes: usize)
 
 // All of it.
 #[tactic(auto, using(reportlines::proofs::Laws::length_loaded, reportlines::proofs::Laws::length_writes))]
-pub fn put_report(page: &mut Page<'_>, chip: &[u8], cursor: Cursor, jumped: bool, end: usize, writes: usize)
+pub fn put_report(
+    page: &mut Page<'_>,
+    chip: &[u8],
+    cursor: Cursor,
+    jumped: bool,
+    end: usize,
+    writes: usize,
+)
     requires { page.old.at + (14 + 27 * length (remaining_writes chip.now cursor) + length (end_line end writes)) ≤ length page.old.out.now }
     ensures same { page.new.out.ghost_name ≡ page.old.out.ghost_name }
     ensures wrote { Wrote page.old page.new (loaded_line jumped ++ write_lines (remaining_writes chip.now cursor) ++ end_line end writes) }
