@@ -39,6 +39,7 @@ fn may_skip(s: &[u8], at: usize, register: u32, count: usize, room: usize) -> bo
 
 // The scanner after the packet of a header at its place; or as it was, where the packet cannot be skipped
 // at once.
+#[tactic(auto, using(framing::proofs::Laws::room, crate::proofs::SkipLaws::past_none, crate::proofs::SkipLaws::past_whole))]
 fn skip_data(s: &[u8], w: Scanner, register: u32, count: usize, room: usize) -> Scanner
     requires { HasRoom s.now w count room × (1 ≤ count → PacketBegins s.now w register count) }
     ensures { SkipKeeps s.now w result }
@@ -51,6 +52,7 @@ fn skip_data(s: &[u8], w: Scanner, register: u32, count: usize, room: usize) -> 
 
 // The same of a packet whose words are only counted. Its register is not kept, so it is passed as one of register 0: what
 // would be asked of other registers falls away.
+#[tactic(auto, using(framing::proofs::Laws::room, crate::proofs::SkipLaws::past_none, crate::proofs::SkipLaws::past_counted))]
 fn skip_counted(s: &[u8], w: Scanner, count: usize, room: usize) -> Scanner
     requires { HasRoom s.now w count room × (1 ≤ count → CountedBegins s.now w count) }
     ensures { SkipKeeps s.now w result }
@@ -63,6 +65,7 @@ fn skip_counted(s: &[u8], w: Scanner, count: usize, room: usize) -> Scanner
 
 // `skip_counted` or `skip_data`, by the register: the caller has asked that it may be named.
 // Stays: no plainer: a struct of `count` and `room` would be made at each call and at once taken apart; `HasRoom` says what is asked of them.
+#[tactic(auto, using(crate::proofs::SkipLaws::plain_begins))]
 fn skip_words(s: &[u8], w: Scanner, register: u32, count: usize, room: usize) -> Scanner
     requires { HasRoom s.now w count room × (register < 32) × (1 ≤ count → PacketBegins s.now w register count) }
     ensures { SkipKeeps s.now w result }
@@ -76,6 +79,7 @@ fn skip_words(s: &[u8], w: Scanner, register: u32, count: usize, room: usize) ->
 // The scanner after a type 1 header with no data words, and after the type 2 packet that it opens `register`
 // to, where one follows that can be passed at once. A packet of one data word is told apart, so that there the next place does
 // not wait for the count.
+#[tactic(auto, using(framing::proofs::Laws::room, scanner::proofs::Laws::least, crate::proofs::SkipLaws::past_on, crate::proofs::SkipLaws::past_empty, crate::proofs::SkipLaws::begins_type2))]
 fn skip_opening(s: &[u8], w: Scanner, register: u32) -> Scanner
     requires { AtHeader w × (w.at + 8 ≤ length s.now) × (register < 32) × (head_of (word_at s.now w.at) ≡ Type1 register 0) }
     ensures { SkipKeeps s.now w result }
@@ -96,6 +100,7 @@ fn skip_opening(s: &[u8], w: Scanner, register: u32) -> Scanner
 // The scanner after a packet of one data word; or as it was. CMD is asked first, so that its packets wait for no other test;
 // of every other register one test says both that it may be named and that its word is only counted. So the commonest packets
 // cost no more tests than if every register might be named.
+#[tactic(auto, using(framing::proofs::Laws::room, crate::proofs::SkipLaws::past_none, crate::proofs::SkipLaws::plain_begins, crate::proofs::SkipLaws::begins_type1, packets::proofs::Laws::command_ok))]
 fn skip_one(s: &[u8], w: Scanner, register: u32) -> Scanner
     requires { AtHeader w × (w.at + 8 ≤ length s.now) × (register < 32) × (register_ok register ≡ true → head_of (word_at s.now w.at) ≡ Type1 register 1) }
     ensures { SkipKeeps s.now w result }
@@ -121,6 +126,7 @@ fn is_nop_at(s: &[u8], at: usize) -> bool
 }
 
 // The scanner after the no-operation at its place and those that follow it. They come in rows, and this loop asks nothing else.
+#[tactic(auto, using(crate::proofs::SkipLaws::past_none, crate::proofs::SkipLaws::past_on, crate::proofs::SkipLaws::past_nop))]
 fn skip_nops(s: &[u8], start: Scanner) -> Scanner
     requires { AtHeader start × (start.at + 4 ≤ length s.now) × (word_at s.now start.at ≡ NOP) }
     ensures { SkipKeeps s.now start result }
@@ -134,6 +140,7 @@ fn skip_nops(s: &[u8], start: Scanner) -> Scanner
 
 // The scanner after the packet whose header is `word`, the word at its place, or after a row of no-operations; or as it
 // was. Packets of one and of two data words are told apart, so that there the next place does not wait for the count.
+#[tactic(auto, using(framing::proofs::Laws::room, scanner::proofs::Laws::least, crate::proofs::SkipLaws::past_none, crate::proofs::SkipLaws::begins_type1))]
 fn skip_packet(s: &[u8], w: Scanner, word: u32) -> Scanner
     requires { AtHeader w × (w.at + 8 ≤ length s.now) × (word ≡ word_at s.now w.at) }
     ensures { SkipKeeps s.now w result }
@@ -164,6 +171,7 @@ fn skip_packet(s: &[u8], w: Scanner, word: u32) -> Scanner
 
 // The scanner after as many whole packets and no-operations as can be skipped. It goes by a word at a
 // time that is loaded ahead, and so spares `follow` its steps where packets are small.
+#[tactic(auto, using(framing::proofs::Laws::room, crate::proofs::SkipLaws::past_none, crate::proofs::SkipLaws::past_on))]
 pub fn skip_packets(s: &[u8], start: Scanner) -> Scanner
     requires { AtHeader start }
     ensures { SkipKeeps s.now start result }
