@@ -13,11 +13,12 @@ use Rattle.core.specs.Result.{is_err}
 use Rattle.base.proofs.Laws.{asked, false_true}
 use Rattle.flash.specs.Flash.{erased}
 use Rattle.kind.specs.Kind.{Kind}
+use Rattle.kind.specs.Spi.{spi}
 use Rattle.kind.specs.Layout.{page, ask_numbers, numbers_answer}
 use Rattle.kind.proofs.Laws.{chip_length_range, update_length_range, on_layout, by_numbers}
 use Rattle.updater.specs.Types.{Reason, BadState, RunEnded, BadReply, Refusal, OrderAnswer, Judgement, NotAsked, Agrees, State, Reply, Next, RefusedReply}
 use Rattle.orders.specs.Table.{by_phase, count}
-use Rattle.orders.specs.Orders.{Order, erase, program, look}
+use Rattle.orders.specs.Orders.{Order, erase, program, look, order_of}
 use Rattle.updater.specs.State.{after, running, phase_consistent, fits, current_order}
 use Rattle.comparison.specs.Comparison.{differs}
 use Rattle.orders.specs.Replies.{done, read, asks_for}
@@ -26,6 +27,7 @@ use Rattle.orders.specs.Judging.{judged_done, judged_look, judged}
 use Rattle.updater.specs.declared.state.Running.{Running}
 use Rattle.updater.specs.Judging.{running_asked, state_of, on_judged}
 use Rattle.orders.proofs.Laws.{phases}
+use Rattle.updater.proofs.OrderLaws.{current_order_law}
 use Rattle.updater.proofs.RunLaws.{numbers_image, fits_says, running_says}
 
 -- No phase but the three that look has a stop.
@@ -87,6 +89,24 @@ places_small state lent e r =
 pub fits_own : (state : State) (lent : ℕ) → fits state lent ≡ true → fits state state.image_length ≡ true
 fits_own state lent e = ap (fits state) (fits_says state lent e).same ∙ e
 
+-- A reply that was judged is answered as the specification says.
+look_judged : (d : Option ℕ) (state : State) → on_judged (judged_look d) state ≡ compared d state
+unfolding on_judged judged_look compared
+look_judged None state = refl
+look_judged (Some address) state = refl
+
+ask_judged : (b : Bool) (rest : Judgement) (state : State) (answer : Result Reply RefusedReply) → on_judged rest state ≡ answer → on_judged (ask b NotAsked rest) state ≡ ask b (refused_reply BadReply 0 state) answer
+unfolding ask on_judged
+ask_judged true rest state answer e = e
+ask_judged false rest state answer e = refl
+
+pub judged_replies : (order : Order) (state : State) (reply_kind : ℕ) (bytes : List ℕ) → on_judged (judged order reply_kind bytes) state ≡ replied_to order state reply_kind bytes
+unfolding judged judged_done replied_to on_judged
+judged_replies (erase place count) state reply_kind bytes = ask_judged (asks_for done 0 reply_kind (length bytes)) Agrees state (Ok (Next (after state))) refl
+judged_replies (program place contents) state reply_kind bytes = ask_judged (asks_for done 0 reply_kind (length bytes)) Agrees state (Ok (Next (after state))) refl
+judged_replies (look place expected) state reply_kind bytes =
+    ask_judged (asks_for read (length expected) reply_kind (length bytes)) _ state (compared (differs place bytes expected) state) (look_judged (differs place bytes expected) state)
+
 -- Questions 6 and 7 by themselves: with a yes to both, the run's state fits and goes on,
 pub goes_on : (state : State) (lent : ℕ) (answer : Result Running Refusal) (run : Running) → state_of answer ≡ running_asked state lent → answer ≡ Ok run →
     (run.state ≡ state) × (fits state lent ≡ true) × (running state ≡ true)
@@ -99,7 +119,18 @@ goes_on state lent answer run e was =
     refused_running : (reason : Reason) → ◌≡◌ {A = Result State Refusal} (refused reason 0) (Ok run.state) → ⊥
     refused_running reason q = let z : ◌≡◌ {A = ℕ} 0 1 = cc in omega arith
 
--- and else an order and a reply are refused as they are.
+-- and an order and a reply are what the current order makes them;
+pub order_goes_on : (kind : Kind) (state : State) (image : List ℕ) → fits state (length image) ≡ true → running state ≡ true → ordered (current_order kind state image) ≡ order_answer kind state image
+unfolding order_answer ask
+order_goes_on kind state image e r = rw (e, r) refl
+
+pub reply_goes_on : (state : State) (image : List ℕ) (reply_kind : ℕ) (bytes : List ℕ) → fits state (length image) ≡ true → running state ≡ true →
+    on_judged (judged (order_of spi state.layout image state.phase state.index) reply_kind bytes) state ≡ reply_answer spi state image reply_kind bytes
+unfolding reply_answer ask
+reply_goes_on state image reply_kind bytes e r =
+    ap (λ (o : Order). on_judged (judged o reply_kind bytes) state) (sym (current_order_law spi state image e r)) ∙ rw (e, r) (judged_replies (current_order spi state image) state reply_kind bytes)
+
+-- and else both are refused as they are.
 pub order_refuses : (kind : Kind) (state : State) (image : List ℕ) (answer : Result Running Refusal) (r : Refusal) → state_of answer ≡ running_asked state (length image) → answer ≡ Err r →
     record { result = Err r; bytes = erased page } ≡ order_answer kind state image
 unfolding order_answer running_asked state_of ask
@@ -121,21 +152,3 @@ reply_refuses kind state image reply_kind bytes answer r e was = go (fits state 
     go true true q = let z : ◌≡◌ {A = ℕ} 0 1 = cc in absurd (omega arith)
     go true false q = cc
     go false b q = cc
-
--- A reply that was judged is answered as the specification says,
-look_judged : (d : Option ℕ) (state : State) → on_judged (judged_look d) state ≡ compared d state
-unfolding on_judged judged_look compared
-look_judged None state = refl
-look_judged (Some address) state = refl
-
-ask_judged : (b : Bool) (rest : Judgement) (state : State) (answer : Result Reply RefusedReply) → on_judged rest state ≡ answer → on_judged (ask b NotAsked rest) state ≡ ask b (refused_reply BadReply 0 state) answer
-unfolding ask on_judged
-ask_judged true rest state answer e = e
-ask_judged false rest state answer e = refl
-
-pub judged_replies : (order : Order) (state : State) (reply_kind : ℕ) (bytes : List ℕ) → on_judged (judged order reply_kind bytes) state ≡ replied_to order state reply_kind bytes
-unfolding judged judged_done replied_to on_judged
-judged_replies (erase place count) state reply_kind bytes = ask_judged (asks_for done 0 reply_kind (length bytes)) Agrees state (Ok (Next (after state))) refl
-judged_replies (program place contents) state reply_kind bytes = ask_judged (asks_for done 0 reply_kind (length bytes)) Agrees state (Ok (Next (after state))) refl
-judged_replies (look place expected) state reply_kind bytes =
-    ask_judged (asks_for read (length expected) reply_kind (length bytes)) _ state (compared (differs place bytes expected) state) (look_judged (differs place bytes expected) state)

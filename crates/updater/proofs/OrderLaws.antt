@@ -29,6 +29,11 @@ current_order_law kind state image e r =
     ap (λ (m : ℕ). get_or (orders kind state.layout image) (count_before state.layout m state.phase + state.index) (erase 0 0)) n
     ∙ (rw k at (order_at kind state.layout image state.phase (6 - state.phase) state.index (erase 0 0) h))
 
+-- The same where the image is said to be as long as the run's.
+pub own_order : (kind : Kind) (state : State) (image : List ℕ) → state.image_length ≡ length image → fits state state.image_length ≡ true → running state ≡ true →
+    current_order kind state image ≡ order_of kind state.layout image state.phase state.index
+own_order kind state image same e r = current_order_law kind state image (sym (ap (fits state) same) ∙ e) r
+
 -- It is the first of those that are left.
 pub orders_left : (kind : Kind) (state : State) (image : List ℕ) → fits state (length image) ≡ true → running state ≡ true →
     drop (position state) (orders kind state.layout image) ≡ current_order kind state image ∷ drop (position state + 1) (orders kind state.layout image)

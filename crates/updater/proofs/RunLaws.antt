@@ -45,6 +45,9 @@ fits_says state lent e =
       same = eqb-true _ _ f.1;
     }
 
+pub fits_same : (state : State) (lent : ℕ) → fits state lent ≡ true → state.image_length ≡ lent
+fits_same state lent e = (fits_says state lent e).same
+
 pub says_fits : (state : State) (lent : ℕ) → Fits state lent → fits state lent ≡ true
 unfolding fits ask_layout ask
 says_fits state lent f = rw (f.numbers.long, f.numbers.starts, f.numbers.spans, f.numbers.image, f.stand) (eq-eqb _ _ f.same)

@@ -6,7 +6,7 @@ ghost use Rattle.base.specs.Answer.{Gives};
 ghost use Rattle.kind.specs.Spi.{spi};
 ghost use Rattle.updater.specs.State.{ended};
 ghost use Rattle.updater.specs.Judging.{running_asked, state_of, on_judged};
-ghost use Rattle.updater.specs.Run.{finished_numbers, finished_answer, order_numbers, order_answer, reply_numbers, refused_reply, stop_of, reply_answer};
+ghost use Rattle.updater.specs.Run.{finished_numbers, finished_answer, order_numbers, order_answer, reply_numbers, stop_of, reply_answer};
 
 use crate::state::{Running, State, fits_image};
 use base::refusal::{Reason, Refusal, ask};
@@ -23,6 +23,7 @@ pub struct OrderAnswer {
 
 // What a reply comes to: the next state; or a stop, with its number, the first address that differs, and the state that
 // has ended.
+// Stays: stop_of (reply_answer) holds it that a stop has a number, and no reason: of a phase that does not look it is 0.
 #[derive(Drop)]
 pub enum Reply {
     Next {
@@ -67,16 +68,6 @@ fn stopped(state: State, outcome: u32) -> State
     }
 }
 
-// A reply that is refused hands back the state that was given.
-fn refused(reason: Reason, state: State) -> Result<Reply, RefusedReply>
-    ensures { result ≡ refused_reply reason 0 state }
-{
-    Err(RefusedReply {
-        refusal: Refusal { reason, place: 0 },
-        state,
-    })
-}
-
 impl Running {
     // The answer to a reply that was judged.
     #[tactic(auto, unfolding(crate::specs::Judging::on_judged))]
@@ -84,7 +75,13 @@ impl Running {
         ensures { result ≡ on_judged judgement self.state }
     {
         match judgement {
-            Judgement::NotAsked => refused(Reason::BadReply, self.state),
+            Judgement::NotAsked => Err(RefusedReply {
+                refusal: Refusal {
+                    reason: Reason::BadReply,
+                    place: 0,
+                },
+                state: self.state,
+            }),
             Judgement::Agrees => Ok(Reply::Next {
                 state: self.after_order(),
             }),

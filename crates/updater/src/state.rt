@@ -1,5 +1,6 @@
 // A run's state: where the run is, whether a state fits an image, its current order, and the state after that. State,
-// order and run are document 01's terms. `Running` is for this crate and the bench alone.
+// order and run are document 01's terms. `Running` is for this crate,
+// `starts` and the bench alone.
 ghost use Rattle.std.specs.Prelude.{ℕ, ◌≡◌, true, List, length};
 ghost use Rattle.kind.specs.Spi.{spi};
 ghost use Rattle.orders.specs.Orders.{operation_of, order_bytes};
@@ -65,6 +66,7 @@ pub struct Running {
 
 impl Running {
     // The current order, as far as it can be said without the image.
+    #[tactic(auto, using(crate::proofs::OrderLaws::own_order, crate::proofs::RunLaws::running_says, crate::proofs::CallLaws::places_small))]
     pub fn operation(self) -> Operation
         ensures { (image : List ℕ) → self.state.image_length ≡ length image → result ≡ operation_of (current_order spi self.state image) }
     {
@@ -73,6 +75,7 @@ impl Running {
     }
 
     // The bytes that the current order programs, then FF. The image is the run's.
+    #[tactic(auto, using(crate::proofs::OrderLaws::own_order, crate::proofs::RunLaws::running_says, crate::proofs::CallLaws::places_small))]
     pub fn bytes(self, image: &[u8]) -> [u8; 256]
         requires { self.state.image_length ≡ length image.now }
         ensures { result ≡ order_bytes (current_order spi self.state image.now) }
@@ -81,6 +84,7 @@ impl Running {
     }
 
     // The state after the current order.
+    #[tactic(auto, using(crate::proofs::RunLaws::running_says, crate::proofs::RunLaws::after_index, crate::proofs::RunLaws::after_phase, crate::proofs::CallLaws::places_small))]
     pub fn after_order(self) -> State
         ensures { result ≡ after self.state }
     {
