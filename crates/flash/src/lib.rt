@@ -8,6 +8,7 @@ ghost use Rattle.flash.specs.Flash.{erased, flash_numbers, flash_answer, after_p
 use base::refusal::{Reason, Refusal, ask};
 
 // Whether a span lies within so many bytes; or refusal 19. Asked of what is left after its place, so that no sum can wrap.
+#[tactic(auto, unfolding(crate::specs::Flash::flash_answer, base::specs::Question::ask), using(std::proofs::lemmas::Bool::Decides::nat_tests))]
 fn ask_room(length: usize, place: usize, count: usize) -> Result<(), Refusal>
     ensures { result ≡ flash_answer length place count }
 {

@@ -31,6 +31,7 @@ const TYPE2: u32 = 0x5000_0000;
 const DESYNC: [u8; 4] = [0x00, 0x00, 0x00, 0x0D];
 
 // Can an accepted image have this length?
+#[tactic(auto, unfolding(crate::specs::Heaviest::heaviest_length_allowed, base::specs::Question::ask), using(std::proofs::lemmas::Bool::Decides::nat_tests))]
 fn length_allowed(length: usize) -> bool
     ensures { result ≡ heaviest_length_allowed length }
 {

@@ -15,66 +15,49 @@ pub struct Layout {
 }
 
 // Question 1: can a chip have this length?
+#[tactic(auto, unfolding(crate::specs::Layout::chip_length_allowed, base::specs::Question::ask), using(std::proofs::lemmas::Bool::Decides::nat_tests))]
 pub fn chip_length_allowed(length: usize) -> bool
     ensures { result ≡ chip_length_allowed length }
 {
-    if length < Spi::SHORTEST {
-        return false;
-    }
-    if Spi::LONGEST < length {
-        return false;
-    }
-    length % Spi::SEGMENT == 0
-}
-
-// Question 2, after question 1.
-fn update_place_allowed(chip_length: usize, update_place: usize) -> bool
-    ensures { result ≡ update_place_allowed chip_length update_place }
-{
-    if update_place % Spi::SEGMENT != 0 {
-        return false;
-    }
-    if update_place < Spi::GOLDEN + Spi::SEGMENT {
-        return false;
-    }
-    update_place < chip_length
-}
-
-// Question 3. Asked of what is left after U, so that no sum can wrap.
-fn update_length_allowed(chip_length: usize, update_place: usize, update_length: usize) -> bool
-    ensures { result ≡ update_length_allowed chip_length update_place update_length }
-{
-    if update_length % Spi::SEGMENT != 0 {
-        return false;
-    }
-    if update_length < Spi::SEGMENT {
-        return false;
-    }
-    if chip_length < update_place {
-        return false;
-    }
-    update_length <= chip_length - update_place
+    Spi::SHORTEST <= length && length <= Spi::LONGEST && length % Spi::SEGMENT == 0
 }
 
 // Question 4: can an image have this length in an area of `longest` bytes?
+#[tactic(auto, unfolding(crate::specs::Layout::image_length_allowed, base::specs::Question::ask), using(std::proofs::lemmas::Bool::Decides::nat_tests))]
 pub fn image_length_allowed(longest: usize, length: usize) -> bool
     ensures { result ≡ image_length_allowed longest length }
 {
-    if length == 0 {
-        return false;
-    }
-    length <= longest
+    1 <= length && length <= longest
 }
 
 impl Layout {
+    // Question 2, after question 1.
+    #[tactic(auto, unfolding(crate::specs::Layout::update_place_allowed, base::specs::Question::ask), using(std::proofs::lemmas::Bool::Decides::nat_tests))]
+    fn update_place_allowed(self) -> bool
+        ensures { result ≡ update_place_allowed self.chip_length self.update_place }
+    {
+        self.update_place % Spi::SEGMENT == 0 && Spi::GOLDEN + Spi::SEGMENT <= self.update_place && self.update_place < self.chip_length
+    }
+
+    // Question 3. Asked of what is left after U, so that no sum can wrap.
+    #[tactic(auto, unfolding(crate::specs::Layout::update_length_allowed, base::specs::Question::ask), using(std::proofs::lemmas::Bool::Decides::nat_tests))]
+    fn update_length_allowed(self) -> bool
+        ensures { result ≡ update_length_allowed self.chip_length self.update_place self.update_length }
+    {
+        self.update_length % Spi::SEGMENT == 0
+            && Spi::SEGMENT <= self.update_length
+            && self.update_place <= self.chip_length
+            && self.update_length <= self.chip_length - self.update_place
+    }
+
     // Whether a chip can have this layout: questions 1 to 3, in order; or refusal 1 to 3.
     #[tactic(auto, unfolding(crate::specs::Layout::layout_answer, crate::specs::Layout::ask_layout, base::specs::Question::ask), using(base::proofs::Laws::gives))]
     pub fn check(self) -> Result<(), Refusal>
         ensures { Gives layout_numbers result (layout_answer self) }
     {
         ask(chip_length_allowed(self.chip_length), Reason::BadChipLength)?;
-        ask(update_place_allowed(self.chip_length, self.update_place), Reason::BadUpdatePlace)?;
-        ask(update_length_allowed(self.chip_length, self.update_place, self.update_length), Reason::BadUpdateLength)
+        ask(self.update_place_allowed(), Reason::BadUpdatePlace)?;
+        ask(self.update_length_allowed(), Reason::BadUpdateLength)
     }
 
     // Whether a run can have this layout with an image of so many bytes: questions 1 to 4, in order; or refusal 1 to 4.

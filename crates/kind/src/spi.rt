@@ -21,6 +21,7 @@ impl Spi {
     pub const SEGMENT: usize = 4_096;
     // The switch word, of four bytes, is the last of segment 0. ON, here as its bytes and as a number, chooses the update
     // image.
+    // Stays: no plainer: a constant's value cannot be a call, so neither can be made of the other by `to_be_bytes`.
     pub const SWITCH: usize = 4_092;
 
     pub const SWITCH_LENGTH: usize = 4;
@@ -32,6 +33,7 @@ impl Spi {
     pub const GOLDEN: usize = 8_192;
 
     // Is this the kind's number?
+    // Stays: the C interface has a number for the kind of a chip, and of one kind yes or no says all.
     pub fn has_number(number: u32) -> bool
         ensures { result ≡ eqb number spi_number }
     {
