@@ -21,11 +21,11 @@ impl Spi {
     pub const SEGMENT: usize = 4_096;
     // The switch word, of four bytes, is the last of segment 0. ON, here as its bytes and as a number, chooses the update
     // image.
-    // Stays: no plainer: a constant's value cannot be a call, so neither can be made of the other by `to_be_bytes`.
     pub const SWITCH: usize = 4_092;
 
     pub const SWITCH_LENGTH: usize = 4;
 
+    // Stays: no plainer: a constant's value cannot be a call, so neither can be made of the other by `to_be_bytes`.
     pub const ON: [u8; 4] = [0xAA, 0x99, 0x55, 0x66];
 
     pub const ON_WORD: u32 = 0xAA99_5566;
