@@ -79,14 +79,14 @@ pub record Countable (state : State) : Type 0 where
   pub order : position state + 1 ≤ total state.layout state.image_length
   pub orders : total state.layout state.image_length ≤ 4 * longest_chip
 
-pub countable : (state : State) → (fits state state.image_length ≡ true) × (running state ≡ true) → Countable state
-countable state goes =
-    let numbers = (fits_says state _ goes.0).numbers in
+pub countable : (state : State) → fits state state.image_length ≡ true → running state ≡ true → Countable state
+countable state fit goes =
+    let numbers = (fits_says state _ fit).numbers in
     let f = chip_length_range state.layout.chip_length numbers.long in
     let a = update_length_range state.layout.chip_length state.layout.update_place state.layout.update_length numbers.spans in
     let n = image_length_range state.layout.update_length state.image_length numbers.image in
-    let p = (running_says state _ goes.0 goes.1).0 in
-    let o = position_running state _ goes.0 goes.1 in
+    let p = (running_says state _ fit goes).0 in
+    let o = position_running state _ fit goes in
     let t = total_is state.layout state.image_length in
     record { phase = omega arith; area = omega arith; image = omega arith; order = omega arith; orders = omega arith }
 

@@ -45,6 +45,7 @@ pub fn total(layout: Layout, image_length: usize) -> Result<usize, Refusal>
 }
 
 // The number of the order that a state asks for, and how many there are.
+#[tactic(auto, using(crate::proofs::ProgressLaws::countable))]
 fn progress_running(run: Running) -> RunProgress
     ensures { result ≡ progress_of run.state }
 {
