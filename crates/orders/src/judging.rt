@@ -22,6 +22,7 @@ pub const READ: u32 = 1;
 
 // How a reply is judged: it is not the one asked for; it moves the run on; or a look read another byte at an
 // address. It holds no state, so that little is carried through the questions.
+// Stays: no plainer: a Result of an Option has three cases as well, and no names for them.
 #[derive(Drop)]
 pub enum Judgement {
     NotAsked,

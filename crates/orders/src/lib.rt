@@ -19,6 +19,7 @@ pub mod judging;
 
 // What is to be done with the chip: an erase of `length` bytes from `place` on, a program of as many, or
 // a look at as many.
+// Stays: no plainer: a kind with a place and a length beside it would be matched on by its kind as well.
 #[derive(Drop)]
 pub enum Operation {
     Erase { place: usize, length: usize },
@@ -29,6 +30,8 @@ pub enum Operation {
 // How many orders a phase has.
 // Stays: State (updater; its calls answer refusal 7 for every phase, and hand every state back) holds it that a phase is a
 // number here and in the functions below.
+// Stays: no plainer: layout, length, phase and index in one struct would be that State without its outcome, made of it at
+// each call.
 #[tactic(auto, unfolding(crate::specs::Table::count, crate::specs::Table::by_phase), using(crate::proofs::TableLaws::count_none))]
 pub fn orders_in(layout: Layout, image_length: usize, phase: u32) -> usize
     ensures { result ≡ count layout image_length phase }
@@ -98,6 +101,7 @@ pub fn operation_at(layout: Layout, image_length: usize, phase: u32, index: usiz
 }
 
 // A page of an image: the last is what remains, and there is nothing after it.
+// Stays: no plainer: an index small enough, here and below, would be a type whose rule is one product's bound.
 #[tactic(auto, using(crate::proofs::OrderLaws::page_part))]
 fn image_page<'a>(image: &'a [u8], index: usize) -> &'a [u8]
     requires { page * index < longest_chip }
