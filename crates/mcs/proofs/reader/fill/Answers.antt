@@ -1,16 +1,14 @@
 -- `reader::fill` meets its contract. The loop's invariant: the lines so far are written, and the text reads as from here on.
 use Rattle.mcsline.proofs.Laws.{Told, told_long, told_upper}
-use Rattle.mcs.proofs.FillLaws.{fill_start, fill_length, fill_none, fill_sound, fill_upper, fill_end, fill_pairs, fill_data, fill_fits}
+use Rattle.mcs.proofs.FillLaws.{fill_length, fill_none, fill_sound, fill_upper, fill_end, fill_pairs, fill_data, fill_fits}
 use native.Mathlib.Omega.{arith}
 use Rattle.mcs.proofs.reader.fill.Goals as goal
 use Rattle.mcs.proofs.reader.fill.Goals.{After-parse_sound}
 
 -- The line at the loop's place is parsed.
+
 told : (c : After-parse_sound) → Told c.args.text.now c.loop-at.at c.parse_sound.result
 told c = record { inside = omega arith; is = c.parse_sound.ensures }
-
-pub loop-at-init : goal.loop-at-init
-loop-at-init c = record { within = omega arith; filled = fill_start c.args.text.now c.args.out.now }
 
 pub parse_sound-requires : goal.parse_sound-requires
 parse_sound-requires c = (omega arith, fill_sound c.loop-at.invariant.filled c.requires (omega arith))

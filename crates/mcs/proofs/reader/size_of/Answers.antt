@@ -4,18 +4,16 @@ use native.Mathlib.Omega.{arith}
 use mathlib.Core.Path.{◌≡◌, sym, ◌∙◌}
 use Rattle.mcsline.proofs.Laws.{Told, told_long, told_upper}
 use Rattle.std.specs.Prelude.{Ok}
-use Rattle.mcs.proofs.ReadingLaws.{reached_start, pass_none, pass_refused, pass_upper, pass_end, pass_more, pass_apart, pass_data}
+use Rattle.mcs.proofs.ReadingLaws.{pass_none, pass_refused, pass_upper, pass_end, pass_more, pass_apart, pass_data}
 use Rattle.mcs.proofs.reader.size_of.Goals as goal
 use Rattle.mcs.proofs.reader.size_of.Goals.{In_ok-line}
 
 -- The line at the loop's place is parsed.
+
 told : (c : In_ok-line) → Told c.args.text.now c.loop-at.at c.in_ok-line.line
 told c =
     let e : c.parse.result ≡ Ok c.in_ok-line.line = search rules in
     record { inside = omega arith; is = sym e ∙ c.parse.ensures }
-
-pub loop-at-init : goal.loop-at-init
-loop-at-init c = record { within = omega arith; shorter = omega arith; reached = reached_start c.args.text.now }
 
 pub returns-in_err-line : goal.returns-in_err-line
 returns-in_err-line c = pass_refused c.loop-at.invariant.reached (omega arith) c.parse.ensures (search rules)
