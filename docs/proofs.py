@@ -8,7 +8,7 @@ CONTRACTS.md is wholly made. In PROOFS.md a definition stands between `<!-- defi
 `<!-- end -->`. A must-fail edit says in its second line which public calls it shows: `# shows: CALL, CALL`.
 
 Checked: both pages are what they would be now, and no page is too long; every public function of a library has an
-`ensures`, and every public call no `requires` and two must-fail edits; every theorem that is stated in specs/ has a proof
+`ensures`, or a result whose type says what it promises (`BY_TYPE`), and every public call no `requires` and two must-fail edits; every theorem that is stated in specs/ has a proof
 of that type among the laws of its crate; every [`name`](file) names something that the
 file declares, every edit named in PROOFS.md or REQUESTS.md exists, and every relative link of README.md and docs/*.md leads to a
 file or a heading; `specs/` mirrors `src/`: where a module's contracts cite definitions of its own crate there is a
@@ -32,9 +32,12 @@ WIDTH = 110
 INTERNAL = (
     'base', 'framing', 'packets', 'scanner', 'fastpath', 'writes::reading', 'writes::next', 'writes::cursor::Cursor::new',
     'writes::cursor::nth_from', 'configreader', 'digits', 'mcsline', 'comparison', 'orders',
-    'updater::state::current_operation', 'updater::state::current_bytes', 'updater::state::after_order', 'effects',
+    'updater::state::Running', 'effects', 'input',
     'fields', 'pairwriter', 'recordwriter', 'reportlines', 'loadlines', 'results', 'fileresults', 'runresults',
     'hosttexts::result')
+
+# What these promise their result's type says, in a ghost field: no clause says it again.
+BY_TYPE = ('digits::table::Digits::new',)
 
 # The static library for C. Each of its functions hands its arguments to the public call of its name, in one of the crates
 # HOSTS, and has that call's contract in the same words, by the same definitions: `check_for_c` holds it to that. So what
@@ -408,7 +411,7 @@ def check_lengths():
 def check_contracts():
     for call in public_functions():
         where = f'{shown(call.file)}: {call.name}'
-        if not re.search(r'^ *ensures\b', call.contract, re.M):
+        if not re.search(r'^ *ensures\b', call.contract, re.M) and not is_in(call, BY_TYPE):
             yield f'{where} has no `ensures`'
         if re.search(r'^ *requires\b', call.contract, re.M) and not is_internal(call):
             yield f'{where} has a `requires`'
