@@ -69,6 +69,7 @@ fn compare_look(image: &[u8], phase: u32, index: usize, place: usize, bytes: &[u
 }
 
 // Questions 8 and 9, for a reply to an order of a phase.
+#[tactic(auto, using(crate::proofs::JudgingLaws::judged_erase, crate::proofs::JudgingLaws::judged_program, crate::proofs::JudgingLaws::judged_refused, crate::proofs::JudgingLaws::judged_compared, crate::proofs::JudgingLaws::asked_for, crate::proofs::CarriedLaws::looks))]
 pub fn judge(
     layout: Layout,
     image: &[u8],
