@@ -6,17 +6,17 @@ use mathlib.Core.List.{List, [], ◌∷◌}
 use native.Mathlib.Nat.{add-zero}
 use native.Mathlib.Numerals.{add-one}
 use native.Mathlib.Omega.{arith}
-use borrow.Author.Tests.{eqb-true, eqb-false, eq-eqb, ne_eqb}
+use borrow.Author.Tests.{eqb-true, eq-eqb}
 use lib.Dec.{eqb}
 use lib.ListN.{length, get_or, drop, length-drop}
 use lib.Seq.{drop-cons, get_or-drop}
 use Rattle.base.proofs.Laws.{false_of, both_true}
 use Rattle.framing.specs.Search.{sync_bytes, begins_with, find}
 use Rattle.std.specs.Prelude.{Some, None}
-use Rattle.std.specs.List.{list_any, starts_with}
+use Rattle.std.specs.List.{list_any}
 use Rattle.std.proofs.lemmas.List.Folds.{list_any_at}
 use Rattle.base.proofs.Laws.{false_true}
-use Rattle.std.proofs.Common.{take, ap₂, ◌&&◌, length-take}
+use Rattle.std.proofs.Common.{take, length-take}
 use Rattle.std.proofs.lemmas.List.{get_or-take}
 
 -- Where a pattern begins, its bytes stand.
@@ -47,20 +47,6 @@ starts_differs ps xs j h d = false_of (begins_with ps xs) (λ e. d (starts_at ps
 
 pub starts_short : (ps xs : List ℕ) → length xs < length ps → begins_with ps xs ≡ false
 starts_short ps xs h = false_of (begins_with ps xs) (λ e. let l : length ps ≤ length xs = starts_length ps xs e in omega arith)
-
-eqb-sym : (a b : ℕ) → eqb a b ≡ eqb b a
-eqb-sym a b = go (eqb a b) refl
-  where
-    go : (t : Bool) → eqb a b ≡ t → eqb a b ≡ eqb b a
-    go true e = e ∙ sym (eq-eqb b a (sym (eqb-true a b e)))
-    go false e = e ∙ sym (ne_eqb b a (λ h. eqb-false a b e (sym h)))
-
--- A slice's `starts_with` says the same.
-pub starts_begins : (ps xs : List ℕ) → starts_with eqb xs ps ≡ begins_with ps xs
-unfolding begins_with
-starts_begins [] xs = refl
-starts_begins (p ∷ ps) [] = refl
-starts_begins (p ∷ ps) (x ∷ xs) = ap₂ ◌&&◌ (eqb-sym p x) (starts_begins ps xs)
 
 -- The same by a place of the bytes.
 pub differs_at : (s : List ℕ) (at j : ℕ) → j < 4 → (get_or s (at + j) 0 ≡ get_or sync_bytes j 0 → ⊥) → begins_with sync_bytes (drop at s) ≡ false

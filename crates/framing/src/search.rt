@@ -1,5 +1,5 @@
 // Where the sync word is: at any byte.
-ghost use Rattle.std.specs.Prelude.{◌≡◌, true, ℕ, ◌+◌, ◌-◌, ◌<◌, ◌≤◌, length, get_or, drop};
+ghost use Rattle.std.specs.Prelude.{◌≡◌, ℕ, ◌-◌, ◌<◌, ◌≤◌, length, get_or, drop};
 ghost use Rattle.framing.specs.Search.{sync_bytes, find};
 
 const SYNC: [u8; 4] = [0xAA, 0x99, 0x55, 0x66];

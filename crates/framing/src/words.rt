@@ -1,5 +1,5 @@
 // The 32-bit words of bytes, high byte first.
-ghost use Rattle.std.specs.Prelude.{◌≡◌, ◌+◌, ◌<◌, ◌≤◌, length, drop};
+ghost use Rattle.std.specs.Prelude.{◌≡◌, ◌+◌, ◌≤◌, length, drop};
 ghost use Rattle.framing.specs.Words.{words, word_at};
 
 // How many whole words there are from `at` on.

@@ -1,10 +1,9 @@
 -- A set of numbers as bits: that it is the set that a definition says is decided for all numbers below a bound at once, by computing.
-use Prim.Native.Nat.{ℕ, zero, suc, ◌/◌, ◌%◌, ◌^◌, ◌<◌}
+use Prim.Native.Nat.{ℕ, zero, suc, ◌<◌}
 use mathlib.Core.Path.{◌≡◌, refl, sym, subst}
 use mathlib.Core.Bool.{Bool, true, false, ◌&&◌, beq}
 use mathlib.Core.Logic.{inl, inr}
 use native.Mathlib.Omega.{arith}
-use lib.Dec.{eqb}
 use Rattle.packets.specs.Header.{in_set}
 use Rattle.base.proofs.Laws.{both_true, below_or_not}
 
