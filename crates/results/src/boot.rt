@@ -52,12 +52,14 @@ impl From<Result<Boot, Refusal>> for TealsettleBoot {
     #[tactic(auto, unfolding(crate::specs::Boot::boot_result, bootreader::specs::Boot::boot_numbers))]
     fn from(answer: Result<Boot, Refusal>) -> TealsettleBoot {
         match answer {
-            Ok(Boot::Loaded {
-                sync,
-                end,
-                writes,
-                jumped,
-            }) => TealsettleBoot {
+            Ok(
+                Boot::Loaded {
+                    sync,
+                    end,
+                    writes,
+                    jumped,
+                },
+            ) => TealsettleBoot {
                 jumped: u32::from(jumped),
                 sync,
                 end,

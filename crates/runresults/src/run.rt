@@ -184,11 +184,13 @@ impl From<Result<Reply, RefusedReply>> for TealsettleReply {
                 state: state.into(),
                 ..TealsettleReply::default()
             },
-            Ok(Reply::Stopped {
-                number,
-                place,
-                state,
-            }) => TealsettleReply {
+            Ok(
+                Reply::Stopped {
+                    number,
+                    place,
+                    state,
+                },
+            ) => TealsettleReply {
                 number,
                 place,
                 stopped: 1,
