@@ -49,7 +49,7 @@ pub fn orders_in(layout: Layout, image_length: usize, phase: u32) -> usize
 }
 
 // How many orders come before a phase; before phase 7, all of a run's.
-#[tactic(auto, using(crate::proofs::TableLaws::before_next), unfolding(crate::specs::Table::count_before))]
+#[tactic(auto, using(crate::proofs::TableLaws::before_next, crate::proofs::TableLaws::before_total, crate::proofs::TableLaws::total_is), unfolding(crate::specs::Table::count_before))]
 pub fn orders_before(layout: Layout, image_length: usize, phase: u32) -> usize
     requires { (phase ≤ 7) × (layout.update_length ≤ longest_chip) × (image_length ≤ longest_chip) }
     ensures { result ≡ count_before layout image_length phase }
