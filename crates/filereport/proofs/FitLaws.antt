@@ -7,14 +7,15 @@ use native.Mathlib.Omega.{arith}
 use borrow.Author.Tests.{le-leb, leb-true}
 use lib.Dec.{leb}
 use lib.ListN.{length}
+use Rattle.std.specs.Prelude.{Result, Ok, Err}
 use Rattle.base.specs.Question.{ask}
-use Rattle.base.specs.Refusal.{no_room}
+use Rattle.base.specs.Refusal.{number_of}
 use Rattle.kind.specs.Layout.{golden_at, chip_length_allowed, update_place_allowed, update_length_allowed, ask_layout, layout_answer}
 use Rattle.kind.specs.Spi.{spi}
 use Rattle.bootreader.proofs.Laws.{accepted_length}
 use Rattle.heaviest.specs.Heaviest.{most_in, most_writes}
 use Rattle.heaviest.proofs.Laws.{nothing_loads_more}
-use Rattle.mcs.specs.Reading.{Reading, Holds, Refused, read_text}
+use Rattle.mcs.specs.Reading.{read_text}
 use Rattle.mcs.proofs.Laws.{text_refusals, holds_room}
 use Rattle.builder.specs.Builder.{built_chip, build_answer}
 use Rattle.builder.proofs.Laws.{questions, allowed_refusals, built_loads}
@@ -26,17 +27,17 @@ use Rattle.report.specs.Refusal.{written}
 use Rattle.report.proofs.Laws.{loaded_length}
 use Rattle.filereport.specs.Filereport.{report_layout, on_built, built_report, on_reading, file_report}
 use Rattle.filereport.specs.Theorems.{longest_report, FileReportFits}
-use Rattle.filereport.specs.Types.{Layout, LayoutAllowed, BuildAnswer, Built, BuildRefused}
+use Rattle.filereport.specs.Types.{NoRoom, Refusal, Layout}
 
 -- A refusal with a number of two digits, at a place of five, is a short line.
-refused_short : (number place : ℕ) → number ≤ no_room → place ≤ 65536 → length (refused_line number place) ≤ longest_report
+refused_short : (number place : ℕ) → number ≤ number_of NoRoom → place ≤ 65536 → length (refused_line number place) ≤ longest_report
 refused_short number place n p =
     let a = length_below 1 number (omega arith) in
     let b = length_below 4 place (omega arith) in
     omega (arith, length_refused number place)
 
 -- A built chip has as many writes as its golden image, which fits into the golden area. (Said of any layout: of one with numbers, the erased chip would be written out.)
-built_short : (layout : Layout) (golden : List ℕ) (room : ℕ) → layout.update_place - golden_at ≤ 8192 → build_answer spi layout golden room ≡ Built → length (chip_report spi (built_chip spi layout golden)) ≤ longest_report
+built_short : (layout : Layout) (golden : List ℕ) (room : ℕ) → layout.update_place - golden_at ≤ 8192 → build_answer spi layout golden room ≡ Ok tt → length (chip_report spi (built_chip spi layout golden)) ≤ longest_report
 unfolding most_in
 built_short layout golden room area e =
     let facts = questions layout golden room e in
@@ -48,7 +49,7 @@ built_short layout golden room area e =
     let long = loaded_length (built_chip spi layout golden) (golden_at + loads.itself.sync) (golden_at + loads.itself.end) loads.itself.writes false loads.reading in
     omega arith
 
-report_layout_allowed : layout_answer report_layout ≡ LayoutAllowed
+report_layout_allowed : layout_answer report_layout ≡ Ok tt
 unfolding layout_answer ask_layout chip_length_allowed update_place_allowed update_length_allowed ask
 report_layout_allowed = refl
 
@@ -56,27 +57,27 @@ built_report_short : (golden : List ℕ) → length golden ≤ 65536 → length 
 unfolding on_built
 built_report_short golden h = go (build_answer spi report_layout golden report_layout.chip_length) refl
   where
-    go : (a : BuildAnswer) → build_answer spi report_layout golden report_layout.chip_length ≡ a → length (on_built golden a) ≤ longest_report
-    go Built e = built_short report_layout golden report_layout.chip_length (omega arith) e
-    go (BuildRefused number place) e =
-        let r = allowed_refusals report_layout golden report_layout.chip_length number place report_layout_allowed e in
-        refused_short number place r.0 (omega arith)
+    go : (a : Result (Unit {0}) Refusal) → build_answer spi report_layout golden report_layout.chip_length ≡ a → length (on_built golden a) ≤ longest_report
+    go (Ok done) e = built_short report_layout golden report_layout.chip_length (omega arith) e
+    go (Err r) e =
+        let least = allowed_refusals report_layout golden report_layout.chip_length r.reason r.place report_layout_allowed e in
+        refused_short (number_of r.reason) r.place least.0 (omega arith)
 
 read_short : (text : List ℕ) → length text ≤ 65536 → length (on_reading (read_text text)) ≤ longest_report
 unfolding on_reading
 read_short text h = go (read_text text) refl
   where
-    go : (r : Reading) → read_text text ≡ r → length (on_reading r) ≤ longest_report
-    go (Holds image) e = let room = holds_room text image e in built_report_short image (omega arith)
-    go (Refused number place) e = let r = text_refusals text number place e in refused_short number place (omega arith) (omega arith)
+    go : (r : Result (List ℕ) Refusal) → read_text text ≡ r → length (on_reading r) ≤ longest_report
+    go (Ok image) e = let room = holds_room text image e in built_report_short image (omega arith)
+    go (Err r) e = let least = text_refusals text r e in refused_short (number_of r.reason) r.place (omega arith) (omega arith)
 
 report_short : (text : List ℕ) → length (file_report text) ≤ longest_report
 unfolding file_report ask
 report_short text = go (leb (length text) 65536) refl
   where
-    go : (b : Bool) → leb (length text) 65536 ≡ b → length (ask b (refused_line no_room 0) (on_reading (read_text text))) ≤ longest_report
+    go : (b : Bool) → leb (length text) 65536 ≡ b → length (ask b (refused_line (number_of NoRoom) 0) (on_reading (read_text text))) ≤ longest_report
     go true e = read_short text (leb-true (length text) 65536 e)
-    go false e = refused_short no_room 0 (omega arith) (omega arith)
+    go false e = refused_short (number_of NoRoom) 0 (omega arith) (omega arith)
 
 pub file_report_fits : FileReportFits
 unfolding written ask
