@@ -71,7 +71,7 @@ module _ (layout : Layout) (golden : List ℕ) (room : ℕ) (built : build_answe
   golden_length : (1 ≤ length golden) × (length golden ≤ longest_image)
   golden_length =
       let q = questions layout golden room built in
-      let a = accepted_length (layout.update_place - golden_at) golden q.sync q.end q.writes q.accepted in
+      let a = accepted_length (layout.update_place - golden_at) golden q.sync q.end q.writes q.read in
       let u = update_place_range layout.chip_length layout.update_place q.starts in
       let l = chip_length_range layout.chip_length q.long in
       (a.0, omega arith)

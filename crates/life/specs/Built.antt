@@ -1,5 +1,6 @@
 -- DEMAND 3 for the chip that the builder answers, in the definitions that the contracts of the calls cite: the builder's answer, the starts, orders and replies of the list (`life`), the boot answer and the writes. And that such a chip names its own U.
 use Rattle.std.specs.Prelude.{ℕ, ◌+◌, ◌≡◌, Bool, List, Some, Ok}
+use Rattle.std.specs.Result.{result_map_both}
 use Rattle.packets.specs.Trace.{content_of}
 use Rattle.bootreader.specs.Image.{accepted as image_accepted, image_answer, image_write}
 use Rattle.bootreader.specs.Boot.{boot_answer, chip_write}
@@ -18,7 +19,7 @@ pub record Boots (kind : Kind) (chip image : List ℕ) (place : ℕ) (jumped : B
   pub writes : ℕ
   pub accepted : image_answer kind image ≡ image_accepted sync end writes
   pub boots : boot_answer kind chip ≡ Ok (BootLoaded (place + sync) (place + end) writes jumped)
-  pub whole : (i : ℕ) → content_of (chip_write kind chip i) ≡ content_of (image_write kind image i)
+  pub whole : (i : ℕ) → result_map_both content_of (λ r. r) (chip_write kind chip i) ≡ result_map_both content_of (λ r. r) (image_write kind image i)
 
 -- Take any list of events on a chip that we built, with the golden image it was given.
 abbrev pub BuiltDemand3 : Type 0
