@@ -74,9 +74,6 @@ pub record Filled (text before out : List ℕ) (at next : ℕ) : Type 0 where
   pub reads : read_at text at half image ≡ read_text text
   pub held : out ≡ image ++ drop next before
 
-pub fill_start : (text before : List ℕ) → Filled text before before 0 0
-fill_start text before = record { half = 0; image = []; long = refl; reads = refl; held = refl }
-
 module _ {text before out : List ℕ} {at next : ℕ} (filled : Filled text before out at next) (fits : Fits (read_text text) (length before)) where
   whole_of : (whole : List ℕ) × ((read_text text ≡ Ok whole) × (length whole ≤ length before))
   whole_of = fits_holds (read_text text) (length before) fits

@@ -95,9 +95,6 @@ pub record Reached (text : List ℕ) (at half next : ℕ) : Type 0 where
   pub long : length image ≡ next
   pub reads : read_at text at half image ≡ read_text text
 
-pub reached_start : (text : List ℕ) → Reached text 0 0 0
-reached_start text = record { image = []; long = refl; reads = refl }
-
 module _ {text : List ℕ} {at half next : ℕ} (reached : Reached text at half next) where
   pub pass_none : length text ≤ at → size_of (read_text text) ≡ refused BadEnd at
   unfolding size_of
