@@ -116,7 +116,7 @@ impl State {
     }
 
     // Questions 6 and 7, for an image of `lent` bytes.
-    #[tactic(auto, unfolding(crate::specs::Judging::running_asked, crate::specs::Judging::state_of, base::specs::Question::ask))]
+    #[tactic(auto, unfolding(crate::specs::Judging::running_asked, crate::specs::Judging::state_of, base::specs::Question::ask), using(base::proofs::Laws::asked_ok, crate::proofs::CallLaws::fits_own))]
     fn ask_running(self, lent: usize) -> Result<Running, Refusal>
         ensures { state_of result ≡ running_asked self lent }
     {
