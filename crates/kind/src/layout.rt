@@ -36,7 +36,9 @@ impl Layout {
     fn update_place_allowed(self) -> bool
         ensures { result ≡ update_place_allowed self.chip_length self.update_place }
     {
-        self.update_place % Spi::SEGMENT == 0 && Spi::GOLDEN + Spi::SEGMENT <= self.update_place && self.update_place < self.chip_length
+        self.update_place % Spi::SEGMENT == 0
+            && Spi::GOLDEN + Spi::SEGMENT <= self.update_place
+            && self.update_place < self.chip_length
     }
 
     // Question 3. Asked of what is left after U, so that no sum can wrap.
@@ -66,6 +68,9 @@ impl Layout {
         ensures { Gives layout_numbers result (numbers_answer self image_length) }
     {
         self.check()?;
-        ask(image_length_allowed(self.update_length, image_length), Reason::BadImageLength)
+        ask(
+            image_length_allowed(self.update_length, image_length),
+            Reason::BadImageLength,
+        )
     }
 }

@@ -1,5 +1,5 @@
 -- `write_image` meets its contract.
-use Rattle.std.proofs.Common.{◌<◌, ◌≤◌, ◌≡◌, sym, ap, ◌∙◌, length, Err, rules, arith}
+use Rattle.std.proofs.Common.{◌≡◌, sym, ap, ◌∙◌, length, Err, rules}
 use borrow.Author.Tests.{leb-true, leb-false}
 use Rattle.base.proofs.Laws.{asked_ok, asked_err, gives}
 use Rattle.heaviest.specs.Heaviest.{most_numbers}
