@@ -1,14 +1,14 @@
 -- Text by the places of its bytes, and by its parts.
-use Prim.Native.Nat.{ℕ, ◌+◌, ◌<◌, ◌≤◌}
-use mathlib.Core.Path.{◌≡◌, refl, ap, ◌∙◌}
+use Prim.Native.Nat.{ℕ, ◌+◌, ◌-◌, ◌%◌, ◌<◌, ◌≤◌}
+use mathlib.Core.Path.{◌≡◌, refl, sym, ap, ◌∙◌}
 use mathlib.Core.Bool.{Bool, true, false, ◌&&◌}
 use mathlib.Core.List.{List, [], ◌∷◌, ◌++◌}
 use native.Mathlib.Numerals.{add-one}
 use native.Mathlib.Omega.{arith}
 use borrow.Author.Tests.{le-leb, lt-leb}
 use lib.Dec.{leb}
-use lib.ListN.{length, get_or, drop, drop_of_length-le}
-use lib.Seq.{drop-cons}
+use lib.ListN.{length, get_or, drop, drop_of_length-le, length-append}
+use lib.Seq.{drop-cons, drop-append-add}
 use Rattle.imagefile.specs.Imagefile.{is_text}
 
 -- A byte up to 7F says nothing; one above it says no; and after the last byte there is none.
@@ -23,12 +23,6 @@ text_stop file i h high = rw (drop-cons file i 0 h, is_text, lt-leb (get_or file
 text_end : (file : List ℕ) (i : ℕ) → length file ≤ i → is_text (drop i file) ≡ true
 unfolding is_text
 text_end file i h = rw (drop_of_length-le file {i = i} h) refl
-
--- Where there are no bytes, none is above 7F.
-pub none_is_text : (bytes : List ℕ) → length bytes ≡ 0 → true ≡ is_text bytes
-unfolding is_text
-none_is_text [] h = refl
-none_is_text (byte ∷ bytes) h = absurd (omega arith)
 
 -- The same beside what is known of the bytes before.
 pub and_text_on : (text : Bool) (file : List ℕ) (i : ℕ) → i < length file → get_or file i 0 ≤ 0x7F → (text && is_text (drop i file)) ≡ (text && is_text (drop (i + 1) file))
@@ -51,3 +45,22 @@ pub text_parts : (xs ys : List ℕ) → is_text (xs ++ ys) ≡ (is_text xs && is
 unfolding is_text
 text_parts [] ys = refl
 text_parts (x ∷ xs) ys = ap (λ b. leb x 0x7F && b) (text_parts xs ys) ∙ and_assoc (leb x 0x7F) (is_text xs) (is_text ys)
+
+-- What whole blocks leave of bytes: a block less leaves the same, and fewer than a block are left as they are.
+unfoldable pub tail_of : List ℕ → List ℕ
+tail_of bytes = drop (length bytes - length bytes % 4096) bytes
+
+pub tail_is : (bytes rest : List ℕ) → rest ≡ drop (length bytes - length bytes % 4096) bytes → tail_of bytes ≡ rest
+unfolding tail_of
+tail_is bytes rest e = sym e
+
+pub tail_on : (bytes block more : List ℕ) → bytes ≡ block ++ more → length block ≡ 4096 → tail_of more ≡ tail_of bytes
+unfolding tail_of
+tail_on bytes block more e l =
+    let n = length-append block more in
+    let place : length (block ++ more) - length (block ++ more) % 4096 ≡ length block + (length more - length more % 4096) = omega arith in
+    rw (e, place) (sym (drop-append-add block more (length more - length more % 4096)))
+
+pub tail_end : (bytes : List ℕ) → length bytes < 4096 → tail_of bytes ≡ bytes
+unfolding tail_of
+tail_end bytes l = let place : length bytes - length bytes % 4096 ≡ 0 = omega arith in rw place refl
