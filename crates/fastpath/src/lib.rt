@@ -64,7 +64,7 @@ fn skip_counted(s: &[u8], w: Scanner, count: usize, room: usize) -> Scanner
 }
 
 // `skip_counted` or `skip_data`, by the register: the caller has asked that it may be named.
-// Stays: no plainer: a struct of `count` and `room` would be made at each call and at once taken apart; `HasRoom` says what is asked of them.
+// Stays: no plainer: a struct of `count` and `room` would be taken apart at once; `HasRoom` says what is asked of them.
 #[tactic(auto, using(crate::proofs::SkipLaws::plain_begins))]
 fn skip_words(s: &[u8], w: Scanner, register: u32, count: usize, room: usize) -> Scanner
     requires { HasRoom s.now w count room × (register < 32) × (1 ≤ count → PacketBegins s.now w register count) }

@@ -26,7 +26,7 @@ pub enum Status {
 // to pass before the wanted one; the writes passed; the last WBSTAR word. It is a plain record with no
 // wide gaps between its fields, so that it can stay in registers from step to step.
 // Stays: no plainer: `register` is also that of the data words left, when it opens nothing, so `opened` makes no Option of it.
-// Stays: no plainer: a type for a scanner before a header (`AtHeader` in contracts) would be this one but two fields, copied to and fro.
+// Stays: no plainer: a type for a scanner before a header (`AtHeader`) would be this one less two fields, copied to and fro.
 #[derive(Clone, Copy)]
 pub struct Scanner {
     pub at: usize,
