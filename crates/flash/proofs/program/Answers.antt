@@ -7,7 +7,7 @@ use native.Mathlib.Nat.{add-zero}
 use native.Mathlib.Numerals.{add-one}
 use lib.Bits.{bit_and}
 use lib.ListN.{length, get_or, set}
-use lib.Seq.{paste, paste-zero, paste-suc, length-paste, drop-paste, get_or-drop}
+use lib.Seq.{paste, paste-suc, length-paste, drop-paste, get_or-drop}
 use Rattle.flash.specs.Flash.{span, after_program}
 use Rattle.flash.proofs.FlashLaws.{room, stays, span_at, span_length, paste_over, in_range, cleared_length, cleared_at}
 use Rattle.flash.proofs.program.Goals as goal
@@ -41,10 +41,6 @@ next chip place bytes i f h =
     ap (λ (x : ℕ). bit_and x (get_or bytes i 0)) (old ∙ sym (span_at chip place (length bytes) i h))
     ∙ sym (cleared_at (span chip place (length bytes)) bytes i (span_length chip place (length bytes) f) h)
 
-pub loop-i-init : goal.loop-i-init
-loop-i-init c =
-    paste-zero c.args.chip.now c.args.place (after_program c.args.chip.now c.args.place c.args.bytes.now)
-
 pub overflow_add-chip : goal.overflow_add-chip
 overflow_add-chip c = let f = fits (goal.at.overflow_add-chip c).In_ok-ask_room in omega arith
 
@@ -62,9 +58,6 @@ loop-i-preserved c =
     rw (c.loop-i.invariant, add-one)
     (ap (λ (byte : ℕ). set (paste c.args.chip.now c.args.place (after_program c.args.chip.now c.args.place c.args.bytes.now) i) (c.args.place + i) byte) (next c.args.chip.now c.args.place c.args.bytes.now i f (omega arith))
     ∙ paste-suc c.args.chip.now c.args.place (after_program c.args.chip.now c.args.place c.args.bytes.now) i 0 (omega arith) (omega arith))
-
-pub shape_of-chip : goal.shape_of-chip
-shape_of-chip c = kept (goal.at.shape_of-chip c).At-loop-i (fits (goal.at.shape_of-chip c).In_ok-ask_room)
 
 pub returns-clause-output : goal.returns-clause-output
 returns-clause-output c =
