@@ -27,8 +27,8 @@ const TYPE1: u32 = 0x3000_8000;
 
 const TYPE2: u32 = 0x5000_0000;
 
-// The word that ends the reading, as its bytes.
-const DESYNC: [u8; 4] = [0x00, 0x00, 0x00, 0x0D];
+// The word that ends the reading.
+const DESYNC: u32 = 0x0000_000D;
 
 // Can an accepted image have this length?
 #[tactic(auto, unfolding(crate::specs::Heaviest::heaviest_length_allowed, base::specs::Question::ask), using(std::proofs::lemmas::Bool::Decides::nat_tests))]
@@ -85,7 +85,7 @@ fn put_image(image_length: usize, writes: usize, out: &mut [u8])
     // The spans lie within the buffer, so that nothing here is refused.
     let _ = fill(out, 0, last_at, 0);
     put_opening(words, writes, out);
-    let _ = overwrite(out, last_at, &DESYNC);
+    let _ = overwrite(out, last_at, &DESYNC.to_be_bytes());
     let _ = erase(out, last_at + 4, image_length % 4);
 }
 

@@ -26,7 +26,7 @@ returns c =
     let desync = c.overwrite in
     let one : zeros.new.chip ≡ overwrite_in_range out 0 last (replicate last 0) = zeros.ensures.output in
     let two : front.new.out ≡ overwrite_in_range zeros.new.chip 0 (length (opening (n / 4))) (opening (n / 4)) = front.ensures in
-    let three : desync.new.chip ≡ overwrite_in_range front.new.out last 4 desync_bytes = desync.ensures.output in
+    let three : desync.new.chip ≡ overwrite_in_range front.new.out last 4 desync_bytes = rw c.to_be_bytes.ensures at desync.ensures.output in
     let four : c.erase.new.chip ≡ overwrite_in_range desync.new.chip (last + 4) (n % 4) (erased (n % 4)) = c.erase.ensures.output in
     four
     ∙ ap (λ (l : List ℕ). overwrite_in_range l (last + 4) (n % 4) (erased (n % 4)))
