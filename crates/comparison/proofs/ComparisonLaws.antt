@@ -43,10 +43,6 @@ erased_drop (suc count) (suc n) h = let e : count - n ≡ suc count - suc n = om
 pub filled_all : (count : ℕ) (bytes : List ℕ) → length bytes ≤ count → bytes ++ drop (length bytes) (erased count) ≡ padded count bytes
 filled_all count bytes h = rw (erased_drop count (length bytes) h) refl
 
--- Bytes whose front is others and whose rest is FF are those others, padded.
-pub filled_parts : (bytes expected : List ℕ) → take (length expected) bytes ≡ expected → drop (length expected) bytes ≡ erased (length bytes - length expected) → bytes ≡ padded (length bytes) expected
-filled_parts bytes expected front rest = sym (take-append-drop (length expected) bytes) ∙ ap₂ ◌++◌ front rest
-
 -- Bytes compared one by one with those expected there.
 differs_same : (place byte m : ℕ) (bytes expected : List ℕ) → byte ≡ m → differs place (byte ∷ bytes) (m ∷ expected) ≡ differs (place + 1) bytes expected
 unfolding differs

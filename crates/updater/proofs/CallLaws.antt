@@ -100,7 +100,7 @@ unfolding ask on_judged
 ask_judged true rest state answer e = e
 ask_judged false rest state answer e = refl
 
-pub judged_replies : (order : Order) (state : State) (reply_kind : ℕ) (bytes : List ℕ) → on_judged (judged order reply_kind bytes) state ≡ replied_to order state reply_kind bytes
+judged_replies : (order : Order) (state : State) (reply_kind : ℕ) (bytes : List ℕ) → on_judged (judged order reply_kind bytes) state ≡ replied_to order state reply_kind bytes
 unfolding judged judged_done replied_to on_judged
 judged_replies (erase place count) state reply_kind bytes = ask_judged (asks_for done 0 reply_kind (length bytes)) Agrees state (Ok (Next (after state))) refl
 judged_replies (program place contents) state reply_kind bytes = ask_judged (asks_for done 0 reply_kind (length bytes)) Agrees state (Ok (Next (after state))) refl
