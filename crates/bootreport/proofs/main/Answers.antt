@@ -10,7 +10,7 @@ use Rattle.bootreport.proofs.main.Goals.{After-whole_report-written}
 -- The report stands whole in the buffer.
 within : (c : After-whole_report-written) → c.whole_report-written.result ≤ length c.whole_report-written.new.out
 within c =
-    let out = c.output-out.result in
+    let out = c.buffer-out.result in
     let fits = written_within (file_report _) out _ (file_report_fits.written _ (length out) (omega arith)) in
     rw (c.whole_report-written.ensures.value, c.whole_report-written.ensures.out_after) fits
 
