@@ -12,7 +12,6 @@ use Rattle.std.specs.List.{starts_with}
 use Rattle.base.specs.Refusal.{refused}
 use Rattle.base.proofs.Laws.{asked, asked_yes}
 use Rattle.framing.proofs.Laws.{starts_at, starts_all, word_of_law, bytes_word}
-use Rattle.framing.proofs.SearchLaws.{starts_begins}
 use Rattle.kind.specs.Layout.{chip_length_allowed, segment}
 use Rattle.kind.specs.Spi.{spi, spi_warm_boot}
 use Rattle.kind.proofs.Laws.{chip_length_range, update_place_range}
@@ -20,7 +19,7 @@ use Rattle.chip.specs.Chip.{WellFormed}
 use Rattle.chip.specs.UpdatePlace.{named_place, begins_for, place_case, place_answer}
 use Rattle.chip.specs.Theorems.{NamedPlace}
 use Rattle.chip.specs.Types.{BadChipLength, Refusal}
-use Rattle.chip.proofs.SwitchLaws.{begins_taken}
+use Rattle.chip.proofs.SwitchLaws.{starts_begins, begins_taken}
 
 words_length : (update_place : ℕ) → length (spi_warm_boot update_place) ≡ 20
 unfolding spi_warm_boot
