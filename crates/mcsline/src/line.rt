@@ -40,10 +40,8 @@ pub enum Line {
     },
 }
 
-// Stays: no plainer: a struct of the table, the text and a place within it, of which four contracts below ask that it is within, would be
-// made for each call of `parse` and taken apart in each function.
-
 // The length of the line end at `at`: LF or CR LF, or 0 for none.
+// Stays: no plainer: a struct of table, text and a place within it would be made for each call of `parse` and taken apart in each function.
 #[tactic(auto, unfolding(crate::specs::Place::ending_of))]
 fn ending(text: &[u8], at: usize) -> usize
     requires { at < length text.now }
