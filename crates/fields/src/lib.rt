@@ -37,6 +37,7 @@ impl<'a> Page<'a> {
     }
 
     // So many hexadecimal digits of a number, from the last to the first.
+    // Stays: no heap, and the contract says every byte: numbers are written by hand here and in put_decimal, not by a Display.
     pub fn put_hexadecimal(&mut self, count: usize, value: usize)
         requires { self.old.at + count ≤ length self.old.out.now }
         ensures same { self.new.out.ghost_name ≡ self.old.out.ghost_name }
