@@ -1,12 +1,12 @@
 -- Laws of a part's lines: the upper half's, those of the bytes that are left, and the loop over them.
-use Prim.Native.Nat.{ℕ, ◌+◌, ◌*◌, ◌/◌, ◌%◌, min, ◌<◌, ◌≤◌}
+use Prim.Native.Nat.{ℕ, ◌+◌, ◌-◌, ◌*◌, ◌/◌, ◌%◌, min, ◌<◌, ◌≤◌}
 use mathlib.Core.Path.{◌≡◌, refl, sym, ap, ap₂, ◌∙◌}
 use mathlib.Core.Logic.{⊎_elim}
 use mathlib.Core.List.{List, [], ◌∷◌, ◌++◌, append-nil}
 use native.Mathlib.Nat.{add_assoc}
 use native.Mathlib.Omega.{arith}
-use lib.ListN.{length, length-append}
-use lib.Seq.{paste, paste-zero, length-paste, take_all}
+use lib.ListN.{length, take, drop, length-append, length-drop, take-append-drop}
+use lib.Seq.{paste, paste-zero, length-paste, take_all, drop-drop, length-take-le}
 use Rattle.base.proofs.Laws.{below_or_not, nil_of_length}
 use Rattle.fields.proofs.Laws.{paste_paste}
 use Rattle.mcsline.specs.Record.{record_text}
@@ -115,3 +115,21 @@ module _ {start : ℕ} {part before : List ℕ} {to place : ℕ} {left after : L
               ∙ ap₂ (λ (s : List ℕ) (k : ℕ). paste after at s k) (sym next) (sym count)
               ∙ going.is;
         }
+
+-- A turn takes up to 16 of the bytes from its place on, and leaves those after them.
+pub record Turn (part : List ℕ) (done count : ℕ) (bytes : List ℕ) : Type 0 where
+  pub parts : drop done part ≡ bytes ++ drop (done + count) part
+  pub takes : length bytes ≡ min 16 (length (drop done part))
+  pub some : 0 < length (drop done part)
+  pub long : length bytes ≡ count
+
+pub turn : (part : List ℕ) (done count taken : ℕ) → taken ≡ count → done < length part → count ≡ min 16 (length part - done) → Turn part done count (take taken (drop done part))
+turn part done count taken same more takes =
+    let left : length (drop done part) ≡ length part - done = length-drop done part in
+    let long : length (take taken (drop done part)) ≡ count = length-take-le taken (drop done part) (omega arith) ∙ same in
+    record {
+      parts = sym (take-append-drop taken (drop done part)) ∙ ap (λ (l : List ℕ). take taken (drop done part) ++ l) (ap (λ (k : ℕ). drop k (drop done part)) same ∙ drop-drop count done part);
+      takes = omega arith;
+      some = omega arith;
+      long = long;
+    }

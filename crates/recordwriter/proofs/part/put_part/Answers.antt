@@ -1,57 +1,42 @@
 -- `part::put_part` meets its contract. The loop's invariant: the lines of the bytes that are left, put at the next place, give what those of all bytes give.
-use Rattle.std.proofs.Common.{◌≡◌, ◌∙◌, ap, rules, arith}
-use Rattle.recordwriter.proofs.PartLaws.{going_start, going_done, going_room, going_on}
+use Rattle.std.proofs.Common.{◌≡◌, ℕ, ◌+◌, ◌-◌, ◌*◌, ◌≤◌, List, length, take, drop, sym, arith}
+use Rattle.std.proofs.Math.ListN.{length-drop}
+use native.Mathlib.Nat.{add_assoc, add-zero}
+use Rattle.mcs.specs.Text.{file_text}
+use Rattle.canonical.specs.Canonical.{upper_lines}
+use Rattle.recordwriter.proofs.PartLaws.{Turn, turn, going_start, going_done, going_room, going_on}
 use Rattle.recordwriter.proofs.part.put_part.Goals as goal
+use Rattle.recordwriter.proofs.part.put_part.Goals.{After-min-count}
 
-pub loop-bytes-init : goal.loop-bytes-init
-loop-bytes-init c =
-    let rest : c.into_iter-bytes-iterator.result.rest.now ≡ c.args.part.now = ap (λ s. s.rest.now) c.into_iter-bytes-iterator.ensures.into_iter_gives ∙ c.chunks-bytes-items.ensures.rest in
-    record { sixteen = search rules; going = rw rest (going_start c.args.start c.args.part.now c.args.out.now c.args.to c.requires.1) }
+-- The bytes of this turn.
+abbrev bytes : After-min-count → List ℕ
+bytes c = take (c.loop-done.done + c.min-count.result - c.loop-done.done) (drop c.loop-done.done c.args.part.now)
+
+this_turn : (c : After-min-count) → Turn c.args.part.now c.loop-done.done c.min-count.result (bytes c)
+this_turn c = turn c.args.part.now c.loop-done.done c.min-count.result _ (omega arith) c.loop-done-test.true c.min-count.ensures
+
+room : (c : After-min-count) → (length (bytes c) ≤ 255) × (c.loop-done.at + (length (file_text (upper_lines (c.args.start + c.loop-done.done))) + (2 * length (bytes c) + 12)) ≤ length c.loop-done.out) × (c.args.start + c.loop-done.done + length (bytes c) ≤ c.args.start + length c.args.part.now)
+room c = let t = this_turn c in going_room c.loop-done.invariant.going (bytes c) (drop (c.loop-done.done + c.min-count.result) c.args.part.now) t.parts t.takes t.some
+
+pub loop-done-init : goal.loop-done-init
+loop-done-init c = record { within = omega arith; going = rw add-zero (going_start c.args.start c.args.part.now c.args.out.now c.args.to c.requires.1) }
 
 pub put_upper-at-requires : goal.put_upper-at-requires
-put_upper-at-requires c =
-    let step = c.in-Some.ensures.steps.1 in
-    let room = going_room c.loop-bytes.invariant.going c.in-Some.bytes.now c.next.new.self.rest.now step.0 (rw c.loop-bytes.invariant.sixteen at step.1) step.2 in
-    (omega arith, omega arith)
+put_upper-at-requires c = let r = room (goal.at.put_upper-at-requires c).After-min-count in (omega arith, omega arith)
 
 pub put_record-at-requires : goal.put_record-at-requires
-put_record-at-requires c =
-    let step = c.in-Some.ensures.steps.1 in
-    let room = going_room c.loop-bytes.invariant.going c.in-Some.bytes.now c.next.new.self.rest.now step.0 (rw c.loop-bytes.invariant.sixteen at step.1) step.2 in
-    (omega arith, omega arith)
+put_record-at-requires c = let r = room (goal.at.put_record-at-requires c).After-min-count in (omega arith, omega arith)
 
-pub overflow_add-place : goal.overflow_add-place
-overflow_add-place c =
-    let step = c.in-Some.ensures.steps.1 in
-    let room = going_room c.loop-bytes.invariant.going c.in-Some.bytes.now c.next.new.self.rest.now step.0 (rw c.loop-bytes.invariant.sixteen at step.1) step.2 in
-    omega arith
-
-pub loop-bytes-preserved : goal.loop-bytes-preserved
-loop-bytes-preserved c =
-    let steps = c.in-Some.ensures.steps in
+pub loop-done-preserved : goal.loop-done-preserved
+loop-done-preserved c =
+    let here = (goal.at.loop-done-preserved c).After-min-count in
+    let t = this_turn here in
     let upper = c.put_upper-at in
     let line = c.put_record-at in
-    record {
-      sixteen = steps.0 ∙ c.loop-bytes.invariant.sixteen;
-      going =
-          going_on
-          c.loop-bytes.invariant.going
-          c.in-Some.bytes.now
-          c.next.new.self.rest.now
-          steps.1.0
-          (rw c.loop-bytes.invariant.sixteen at steps.1.1)
-          steps.1.2
-          upper.new.out
-          line.new.out
-          upper.result
-          line.result
-          upper.ensures.place
-          line.ensures.place
-          upper.ensures.output
-          line.ensures.output;
-    }
+    let next = going_on c.loop-done.invariant.going (bytes here) (drop (c.loop-done.done + c.min-count.result) c.args.part.now) t.parts t.takes t.some upper.new.out line.new.out upper.result line.result upper.ensures.place line.ensures.place upper.ensures.output line.ensures.output in
+    record { within = omega arith; going = rw (← add_assoc c.args.start c.loop-done.done c.min-count.result) (rw t.long at next) }
 
 pub returns : goal.returns
 returns c =
-    let done = going_done c.loop-bytes.invariant.going c.in-None.ensures.steps.1.0 in
+    let done = going_done c.loop-done.invariant.going (omega (arith, length-drop c.loop-done.done c.args.part.now)) in
     record { place = done.0; output = done.1 }
