@@ -42,7 +42,7 @@ unfolding most_in
 built_short layout golden room area e =
     let facts = questions layout golden room e in
     let loads = built_loads layout golden room e in
-    let n = accepted_length (layout.update_place - golden_at) golden facts.sync facts.end facts.writes facts.accepted in
+    let n = accepted_length (layout.update_place - golden_at) golden facts.sync facts.end facts.writes facts.read in
     let most = nothing_loads_more.reading 0 false golden 0 loads.itself.sync loads.itself.end loads.itself.writes false (omega arith) loads.itself.reading in
     let fits : most_writes (length golden) ≤ 2046 = nothing_loads_more.grows (length golden) 8192 (omega arith) in
     let digits = length_below 3 loads.itself.writes (omega arith) in
