@@ -1,12 +1,12 @@
 -- Laws of bytes, then FF, and of bytes compared with them.
 use Prim.Native.Nat.{ℕ, zero, suc, ◌+◌, ◌-◌, ◌<◌, ◌≤◌}
-use mathlib.Core.Path.{◌≡◌, refl, sym, ap, ap₂, ◌∙◌}
+use mathlib.Core.Path.{◌≡◌, refl, sym, ap, ◌∙◌}
 use mathlib.Core.Bool.{Bool, true, false}
 use mathlib.Core.List.{List, [], ◌∷◌, ◌++◌}
 use native.Mathlib.Omega.{arith}
 use borrow.Author.Tests.{ltb-true, ltb-false, eqb-true, eq-eqb, ne_eqb}
 use lib.Dec.{eqb, ltb}
-use lib.ListN.{length, get_or, take, drop, length-append, get_or-replicate, take-append-drop, drop_of_length-le, get_or-append, get_or-eq_default}
+use lib.ListN.{length, get_or, drop, length-append, get_or-replicate, drop_of_length-le, get_or-append, get_or-eq_default}
 use lib.Seq.{drop-cons, get_or-append-add}
 use Rattle.std.specs.Prelude.{Option, Some, None}
 use Rattle.flash.specs.Flash.{erased}
