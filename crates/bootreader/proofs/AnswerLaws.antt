@@ -7,7 +7,7 @@ use native.Mathlib.Omega.{arith}
 use borrow.Author.Tests.{le-leb}
 use lib.ListN.{length, take}
 use lib.Seq.{take-length}
-use Rattle.std.proofs.Common.{Option, Some, None, Result, Ok, Err}
+use Rattle.std.proofs.Common.{Option, Some, Result, Ok, Err}
 use Rattle.std.specs.Result.{result_map_both}
 use native.Mathlib.Nat.{zero-add}
 use Rattle.kind.specs.Spi.{spi}
@@ -21,7 +21,7 @@ use Rattle.kind.specs.Layout.{chip_length_allowed, image_length_allowed}
 use Rattle.bootreader.specs.Image.{longest_image, accepted, alone_case, ask_image, image_answer, image_write, image_listing}
 use Rattle.bootreader.specs.Boot.{boot_case, boot_answer, cursor_of, chip_write}
 use Rattle.bootreader.specs.Theorems.{WritesCounted}
-use Rattle.bootreader.specs.Types.{Reason, BadImageLength, Refusal, Outcome, Loaded, OutcomeIprog, Stuck, Boot, BootLoaded, Accepted, FinishEnded, Write, Cursor}
+use Rattle.bootreader.specs.Types.{Reason, BadImageLength, Refusal, Outcome, Loaded, OutcomeIprog, Stuck, Boot, BootLoaded, Accepted, FinishEnded, Write}
 use Rattle.kind.proofs.Laws.{image_length_range}
 use Rattle.base.proofs.Laws.{asked}
 use Rattle.packets.proofs.Laws.{counted}

@@ -17,7 +17,7 @@ use Rattle.configreader.specs.Theorems.{twelve_bytes}
 use Rattle.bootreader.specs.Image.{longest_image, accepted, alone_case, image_answer, image_write, image_listing}
 use Rattle.bootreader.specs.Boot.{cursor_of, chip_write, chip_listing}
 use Rattle.bootreader.specs.Theorems.{CursorLists, ShortestImage, ImageRefusals}
-use Rattle.bootreader.specs.Types.{Reason, BadImageLength, ImageFault, ImageJumps, Refusal, Cursor, Write, Outcome, Loaded, OutcomeIprog, Stuck, Accepted}
+use Rattle.bootreader.specs.Types.{BadImageLength, ImageFault, ImageJumps, Refusal, Cursor, Write, Outcome, Loaded, OutcomeIprog, Stuck, Accepted}
 use Rattle.base.proofs.Laws.{asked}
 use Rattle.configreader.proofs.Laws.{shortest_reading, faults_within}
 use Rattle.bootreader.proofs.AnswerLaws.{on_answer, listing_by_answer, accepted_reads, opened_remaining, chip_steps, image_steps, accepts}

@@ -9,7 +9,7 @@ use native.Mathlib.Nat.{add-zero, zero-add, sub-zero}
 use native.Mathlib.Omega.{arith}
 use lib.ListN.{length, get_or, drop}
 use lib.Seq.{drop-cons, drop-length}
-use Rattle.std.proofs.Common.{Option, Some, None, Result, Ok}
+use Rattle.std.proofs.Common.{Option, None, Result, Ok}
 use Rattle.base.specs.Refusal.{refused}
 use Rattle.framing.specs.Words.{words}
 use Rattle.packets.specs.Header.{head_of, effect_of}
