@@ -1,7 +1,7 @@
 // The calls on a run: its order, the reply that moves it on, whether it has ended. Run, order, reply and stop are document
 // 01's terms. The run asks for an order (crate `orders`), the host carries it out and replies; a stop is a look that read
 // something else than expected.
-ghost use Rattle.std.specs.Prelude.{◌≡◌, length};
+ghost use Rattle.std.specs.Prelude.{◌≡◌};
 ghost use Rattle.base.specs.Answer.{Gives};
 ghost use Rattle.kind.specs.Spi.{spi};
 ghost use Rattle.updater.specs.State.{ended};
