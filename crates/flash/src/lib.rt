@@ -15,6 +15,8 @@ fn ask_room(length: usize, place: usize, count: usize) -> Result<(), Refusal>
     ask(place <= length && count <= length - place, Reason::NoRoom)
 }
 
+// Stays: no plainer: a place and a count go together through these four, but two have the count as the length of their bytes.
+
 // Puts one byte at every place of a span, whatever stood there: an erase does so with FF. Or refusal 19, and the chip as it
 // was.
 pub fn fill(chip: &mut [u8], place: usize, count: usize, byte: u8) -> Result<(), Refusal>
