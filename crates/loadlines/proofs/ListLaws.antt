@@ -8,7 +8,7 @@ use Rattle.fields.specs.declared.Page.{Page}
 use Rattle.fields.specs.Page.{Wrote}
 use Rattle.fields.proofs.Laws.{wrote_nothing, wrote_then}
 use Rattle.reportlines.specs.Reportlines.{write_line, write_lines}
-use Rattle.reportlines.proofs.Laws.{length_write, length_writes}
+use Rattle.reportlines.proofs.Laws.{length_write}
 
 -- The lines of the writes that are left, put on the page as it is now, are those of all writes on the page as it was.
 pub record Going (before : Page) (all : List Write) (now : Page) (left : List Write) : Type 0 where

@@ -9,7 +9,7 @@ use lib.ListN.{length, drop, length-append}
 use Rattle.std.specs.Prelude.{Ok}
 use Rattle.base.specs.Question.{ask}
 use Rattle.base.specs.Refusal.{refused}
-use Rattle.report.specs.Types.{NoRoom, Refusal}
+use Rattle.report.specs.Types.{NoRoom}
 use Rattle.report.specs.Refusal.{written}
 use Rattle.base.specs.Output.{front_filled}
 pub use Rattle.report.proofs.AnswerLaws.{loaded_length}

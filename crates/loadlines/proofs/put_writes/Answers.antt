@@ -1,5 +1,5 @@
 -- `loadlines::put_writes` meets its contract. The loop's invariant: the lines that are left give the same as all of them gave at the start.
-use Rattle.std.proofs.Common.{◌≡◌, ◌∷◌, Option, Some, arith}
+use Rattle.std.proofs.Common.{◌≡◌, ◌∷◌}
 use Rattle.loadlines.proofs.ListLaws.{going_start, going_room, going_on, going_done, step_wrote, step_done}
 use Rattle.writes.specs.Cursor.{remaining_writes}
 use Rattle.writes.proofs.Laws.{halves_remaining}

@@ -1,7 +1,5 @@
 -- `Page::put_decimal` meets its contract: the last digit is put after the others.
-use Rattle.std.proofs.Common.{◌≡◌, ℕ, ◌+◌, ◌/◌, ◌%◌, List, [], ◌∷◌, length, sym, ap, arith}
-use Rattle.fields.specs.Fields.{decimal}
-use Rattle.fields.specs.Page.{Wrote}
+use Rattle.std.proofs.Common.{◌≡◌, ◌%◌, arith}
 use Rattle.fields.proofs.FieldLaws.{length_small, length_step, decimal_small, decimal_step}
 use Rattle.fields.proofs.PageLaws.{wrote_then}
 use Rattle.fields.proofs.Page.+put_decimal.Goals as goal

@@ -1,5 +1,5 @@
 -- `part::put_part` meets its contract. The loop's invariant: the lines of the bytes that are left, put at the next place, give what those of all bytes give.
-use Rattle.std.proofs.Common.{◌≡◌, ℕ, ◌+◌, ◌-◌, ◌*◌, ◌≤◌, List, length, take, drop, sym, arith}
+use Rattle.std.proofs.Common.{ℕ, ◌+◌, ◌-◌, ◌*◌, ◌≤◌, List, length, take, drop, arith}
 use Rattle.std.proofs.Math.ListN.{length-drop}
 use native.Mathlib.Nat.{add_assoc, add-zero}
 use Rattle.mcs.specs.Text.{file_text}

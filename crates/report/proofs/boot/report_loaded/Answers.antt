@@ -1,5 +1,5 @@
 -- `boot::report_loaded` meets its contract.
-use Rattle.std.proofs.Common.{◌≡◌, true, false, Ok, Err, sym, ap, ◌∙◌, rules, arith}
+use Rattle.std.proofs.Common.{◌≡◌, true, Err, sym, ap, ◌∙◌, rules, arith}
 use Rattle.base.proofs.Laws.{asked_ok, asked_err}
 use Rattle.report.specs.Types.{NoRoom}
 use Rattle.report.proofs.AnswerLaws.{loaded_small, loaded_sync, loaded_room, loaded_put}
