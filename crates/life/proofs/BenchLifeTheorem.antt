@@ -4,7 +4,6 @@ use mathlib.Core.Path.{◌≡◌, refl, sym, ap, ◌∙◌}
 use mathlib.Core.Bool.{false}
 use Rattle.std.specs.Prelude.{Some, Result, Ok, Err}
 use mathlib.Core.List.{List, ◌∷◌, append-nil}
-use native.Mathlib.Omega.{arith}
 use lib.ListN.{length, drop, take, length-take}
 use Rattle.base.specs.Question.{ask}
 use Rattle.base.specs.Refusal.{refused}
@@ -19,7 +18,7 @@ use Rattle.effects.specs.Progress.{chip_after, state_after, state_at}
 use Rattle.bench.specs.Bench.{cut_allowed, bench_answer, bench_output}
 use Rattle.life.specs.Life.{fresh, Event, starts, life, obeying}
 use Rattle.life.specs.BenchLife.{BenchLife, BenchLives}
-use Rattle.life.specs.Types.{Reason, BadDamage, Refusal, State}
+use Rattle.life.specs.Types.{BadDamage, Refusal, State}
 use Rattle.starts.proofs.Laws.{opened}
 use Rattle.bench.proofs.Laws.{on_start, by_start}
 use Rattle.life.proofs.UncutLaws.{run_state, run_ended_law, cut_run}
