@@ -8,8 +8,8 @@ use native.Mathlib.Omega.{arith}
 use borrow.Author.Tests.{eq-eqb, eqb-true, leb-true, le-leb, lt-leb, lt-ltb, le-ltb}
 use lib.Bits.{bit_and, bit_xor, and_comm}
 use lib.Dec.{eqb}
-use lib.ListN.{length, get_or, take, drop}
-use lib.Seq.{length-take-le, get_or-take, drop-cons}
+use lib.ListN.{length, get_or, take}
+use lib.Seq.{length-take-le, get_or-take}
 use Rattle.base.specs.Question.{ask}
 use Rattle.base.proofs.Laws.{asked, both_true, false_true, below_or_not}
 use Rattle.kind.specs.Layout.{segment}

@@ -1,18 +1,16 @@
 -- `bench::write_damage` meets its contract.
 use Prim.Native.Nat.{◌≤◌}
 use mathlib.Core.Path.{◌≡◌, sym, ap, ◌∙◌}
-use mathlib.Core.Logic.{◌⊎◌, ⊎_elim}
+use mathlib.Core.Logic.{⊎_elim}
 use mathlib.Core.List.{List}
-use native.Mathlib.Omega.{arith}
-use borrow.Author.Tests.{lt-ltb, le-ltb}
 use lib.ListN.{length, take, drop}
 use lib.Seq.{length-take-le}
 use Rattle.kind.specs.Spi.{spi}
 use Rattle.flash.specs.Flash.{overwrite_in_range}
-use Rattle.orders.specs.Orders.{Order, orders, operation_of}
+use Rattle.orders.specs.Orders.{Order, orders}
 use Rattle.bench.specs.Bench.{cut_in}
 use Rattle.updater.proofs.Laws.{orders_ended}
-use Rattle.updater.specs.State.{position, current_order}
+use Rattle.updater.specs.State.{position}
 use Rattle.bench.specs.Types.{Erase, Program}
 use Rattle.bench.proofs.BenchLaws.{left_by, Enough, current_left, current_enough}
 use Rattle.bench.proofs.write_damage.Goals as goal

@@ -6,13 +6,13 @@ use native.Mathlib.Omega.{arith}
 use borrow.Author.Tests.{leb-true, leb-false}
 use lib.ListN.{length, take}
 use lib.Seq.{length-take-le}
-use Rattle.std.proofs.Common.{Ok, Err, rules}
+use Rattle.std.proofs.Common.{Err, rules}
 use Rattle.base.specs.Refusal.{number_of}
 use Rattle.base.proofs.Laws.{asked_ok, asked_err}
 use Rattle.mcs.proofs.Laws.{read_says, refused_says}
 use Rattle.filereport.specs.Types.{NoRoom, Refusal}
 use Rattle.reportlines.specs.Reportlines.{refused_line}
-use Rattle.filereport.specs.Filereport.{file_report, built_report}
+use Rattle.filereport.specs.Filereport.{built_report}
 use Rattle.filereport.proofs.FileLaws.{built_says, reports_long, reports_image, reports_refused}
 use Rattle.filereport.proofs.built.Goals as goal
 use Rattle.filereport.proofs.built.Goals.{In_ok-ask}

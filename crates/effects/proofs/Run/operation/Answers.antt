@@ -1,5 +1,4 @@
 -- `effects::Run::operation` meets its contract.
-use Prim.Native.Nat.{ℕ}
 use mathlib.Core.Path.{ap, ◌∙◌}
 use lib.ListN.{length}
 use Rattle.kind.specs.Spi.{spi}
