@@ -1,14 +1,15 @@
 -- `part::put_part` meets its contract. The loop's invariant: the lines of the bytes that are left, put at the next place, give what those of all bytes give.
 use Rattle.std.proofs.Common.{ℕ, ◌+◌, ◌-◌, ◌*◌, ◌≤◌, List, length, take, drop, arith}
 use Rattle.std.proofs.Math.ListN.{length-drop}
-use native.Mathlib.Nat.{add_assoc, add-zero}
+use native.Mathlib.Nat.{add_assoc}
 use Rattle.mcs.specs.Text.{file_text}
 use Rattle.canonical.specs.Canonical.{upper_lines}
-use Rattle.recordwriter.proofs.PartLaws.{Turn, turn, going_start, going_done, going_room, going_on}
+use Rattle.recordwriter.proofs.PartLaws.{Turn, turn, going_done, going_room, going_on}
 use Rattle.recordwriter.proofs.part.put_part.Goals as goal
 use Rattle.recordwriter.proofs.part.put_part.Goals.{After-min-count}
 
 -- The bytes of this turn.
+
 abbrev bytes : After-min-count → List ℕ
 bytes c = take (c.loop-done.done + c.min-count.result - c.loop-done.done) (drop c.loop-done.done c.args.part.now)
 
@@ -17,9 +18,6 @@ this_turn c = turn c.args.part.now c.loop-done.done c.min-count.result _ (omega 
 
 room : (c : After-min-count) → (length (bytes c) ≤ 255) × (c.loop-done.at + (length (file_text (upper_lines (c.args.start + c.loop-done.done))) + (2 * length (bytes c) + 12)) ≤ length c.loop-done.out) × (c.args.start + c.loop-done.done + length (bytes c) ≤ c.args.start + length c.args.part.now)
 room c = let t = this_turn c in going_room c.loop-done.invariant.going (bytes c) (drop (c.loop-done.done + c.min-count.result) c.args.part.now) t.parts t.takes t.some
-
-pub loop-done-init : goal.loop-done-init
-loop-done-init c = record { within = omega arith; going = rw add-zero (going_start c.args.start c.args.part.now c.args.out.now c.args.to c.requires.1) }
 
 pub put_upper-at-requires : goal.put_upper-at-requires
 put_upper-at-requires c = let r = room (goal.at.put_upper-at-requires c).After-min-count in (omega arith, omega arith)

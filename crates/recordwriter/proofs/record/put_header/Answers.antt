@@ -3,29 +3,14 @@ use Prim.Native.Nat.{ℕ, ◌/◌, ◌%◌}
 use mathlib.Core.Path.{◌≡◌, refl, ap}
 use mathlib.Core.List.{List, [], ◌∷◌}
 use native.Mathlib.Omega.{arith}
-use lib.ListN.{length, get_or, set, length-set}
+use lib.ListN.{get_or, set}
 use Rattle.digits.specs.Digit.{hex}
 use Rattle.fields.proofs.Laws.{Put, paste_one, put_then}
 use Rattle.mcsline.specs.Record.{COLON}
 use Rattle.recordwriter.proofs.LineLaws.{two_bytes}
 use Rattle.recordwriter.proofs.record.put_header.Goals as goal
-use Rattle.recordwriter.proofs.record.put_header.Goals.{Start}
 
 -- The colon leaves the buffer as long as it was.
-stored : (c : Start) → length (set c.args.out.now c.args.at COLON) ≡ length c.args.out.now
-stored c = length-set c.args.out.now c.args.at COLON
-
-pub put_pair-requires : goal.put_pair-requires
-put_pair-requires c = omega (arith, stored (goal.at.put_pair-requires c).Start)
-
-pub put_pair-requires-2 : goal.put_pair-requires-2
-put_pair-requires-2 c = omega (arith, stored (goal.at.put_pair-requires-2 c).Start)
-
-pub put_pair-requires-3 : goal.put_pair-requires-3
-put_pair-requires-3 c = omega (arith, stored (goal.at.put_pair-requires-3 c).Start)
-
-pub put_pair-requires-4 : goal.put_pair-requires-4
-put_pair-requires-4 c = omega (arith, stored (goal.at.put_pair-requires-4 c).Start)
 
 pub returns : goal.returns
 unfolding hex
