@@ -3,31 +3,16 @@
 // written.
 #![tactic(auto)]
 
-ghost use Rattle.std.specs.Prelude.{◌≡◌, ◌≤◌, length};
+ghost use Rattle.std.specs.Prelude.{◌≡◌, length};
 ghost use Rattle.filereport.specs.Filereport.{file_report, file_output};
 
 use filereport::report;
-use std::io::Read;
+use input::read_full;
 
 // Room for so many bytes.
+// Stays: fixed memory: no text or report that is longer is read or made.
 fn buffer<const N: usize>() -> [u8; N] {
     [0; N]
-}
-
-// Reads into a buffer until it is full or the reader is at its end: how many bytes. A read that fails counts as the
-// end.
-fn read_full(from: &mut impl Read, buffer: &mut [u8]) -> usize
-    ensures { result ≤ length buffer.new }
-{
-    let mut size = 0;
-    while size < buffer.len() {
-        let more = from.read(&mut buffer[size..]).unwrap_or(0);
-        if more == 0 {
-            break;
-        }
-        size += more;
-    }
-    size
 }
 
 // The report of a text: how many bytes it has in the buffer. No report is longer than the buffer (`FileReportFits`), so none
