@@ -45,10 +45,6 @@ pub record Going (start : ℕ) (part before : List ℕ) (to place : ℕ) (left a
   pub ends : at + length (part_text place left) ≡ to + length (part_text start part)
   pub is : paste after at (part_text place left) (length (part_text place left)) ≡ paste before to (part_text start part) (length (part_text start part))
 
--- At the start all are left.
-pub going_start : (start : ℕ) (part before : List ℕ) (to : ℕ) → to + length (part_text start part) ≤ length before → Going start part before to start part before to
-going_start start part before to room = record { here = refl; room = room; same = refl; ends = refl; is = refl }
-
 module _ {start : ℕ} {part before : List ℕ} {to place : ℕ} {left after : List ℕ} {at : ℕ} (going : Going start part before to place left after at) where
   -- None is left, so all are put.
   pub going_done : length left ≡ 0 → (at ≡ to + length (part_text start part)) × (after ≡ paste before to (part_text start part) (length (part_text start part)))

@@ -9,7 +9,6 @@ use Rattle.recordwriter.proofs.part.put_part.Goals as goal
 use Rattle.recordwriter.proofs.part.put_part.Goals.{After-min-count}
 
 -- The bytes of this turn.
-
 abbrev bytes : After-min-count → List ℕ
 bytes c = take (c.loop-done.done + c.min-count.result - c.loop-done.done) (drop c.loop-done.done c.args.part.now)
 
