@@ -15,6 +15,8 @@ use orders::Operation;
 use updater::state::{Running, State};
 
 // A run on an image: its state, which fits the image.
+// Stays: no plainer: the chip is lent beside it, with its length in a requires: a struct with the caller's &mut in it has to
+// say in every method that it still holds that reference.
 #[derive(Clone, Copy)]
 pub struct Run<'a> {
     pub state: State,
@@ -80,6 +82,8 @@ impl<'a> Run<'a> {
     }
 
     // The run after `cut` orders, or at its end.
+    // Stays: no plainer: that it is at its start is asked of one run, that of the bench's call; a type for it would stand
+    // around this one and be taken off at once.
     pub fn after(self, cut: usize) -> Run<'a>
         requires { self.state ≡ first self.state.layout (length self.image.now) }
         ensures state { result.state ≡ state_after (min cut (total self.entry.state.layout (length self.entry.image.now))) self.entry.state }
