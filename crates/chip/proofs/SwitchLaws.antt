@@ -1,17 +1,16 @@
 -- Laws of the switch word: its bytes, and which words are ON on an SPI chip.
 use Prim.Native.Nat.{ℕ, zero, suc, ◌+◌, ◌-◌, ◌<◌, ◌≤◌}
-use mathlib.Core.Path.{◌≡◌, refl, sym, ap, ap₂, ◌∙◌}
-use mathlib.Core.Bool.{Bool, true, false, ◌&&◌}
+use mathlib.Core.Path.{◌≡◌, refl, sym, ap, ◌∙◌}
+use mathlib.Core.Bool.{Bool, true, false}
 use mathlib.Core.List.{List, [], ◌∷◌}
 use native.Mathlib.Omega.{arith}
-use borrow.Author.Tests.{eqb-true, eqb-false, eq-eqb, ne_eqb}
 use lib.Dec.{eqb}
 use lib.ListN.{length, get_or, take, drop}
 use Rattle.std.specs.List.{starts_with}
 use lib.Seq.{get_or-drop}
 use Rattle.framing.specs.Search.{sync_bytes, begins_with}
 use Rattle.base.proofs.Laws.{false_of, false_true}
-use Rattle.framing.proofs.Laws.{starts_at, starts_all, starts_differs}
+use Rattle.framing.proofs.Laws.{starts_begins, starts_at, starts_all, starts_differs}
 use Rattle.kind.specs.Layout.{switch_at}
 use Rattle.flash.specs.Flash.{bit}
 use Rattle.kind.specs.Spi.{spi, spi_on}
@@ -20,20 +19,6 @@ use Rattle.flash.proofs.Laws.{span_at, span_length, same_bits}
 
 pub word_at_law : (chip : List ℕ) (j : ℕ) → j < 4 → get_or (switch_word chip) j 0 ≡ get_or chip (switch_at + j) 0
 word_at_law chip j h = span_at chip switch_at 4 j h
-
--- A slice's `starts_with` says the same as `begins_with`.
-same_test : (a b : ℕ) → eqb a b ≡ eqb b a
-same_test a b = go (eqb a b) refl
-  where
-    go : (t : Bool) → eqb a b ≡ t → eqb a b ≡ eqb b a
-    go true e = e ∙ sym (eq-eqb b a (sym (eqb-true a b e)))
-    go false e = e ∙ sym (ne_eqb b a (λ h. eqb-false a b e (sym h)))
-
-pub starts_begins : (pattern bytes : List ℕ) → starts_with eqb bytes pattern ≡ begins_with pattern bytes
-unfolding begins_with
-starts_begins [] bytes = refl
-starts_begins (p ∷ pattern) [] = refl
-starts_begins (p ∷ pattern) (byte ∷ bytes) = ap₂ ◌&&◌ (same_test p byte) (starts_begins pattern bytes)
 
 -- What begins where a pattern does: more bytes after the pattern make no difference.
 pub begins_taken : (pattern bytes : List ℕ) (n : ℕ) → length pattern ≤ n → begins_with pattern (take n bytes) ≡ begins_with pattern bytes

@@ -19,7 +19,8 @@ use Rattle.chip.specs.Chip.{WellFormed}
 use Rattle.chip.specs.UpdatePlace.{named_place, begins_for, place_case, place_answer}
 use Rattle.chip.specs.Theorems.{NamedPlace}
 use Rattle.chip.specs.Types.{BadChipLength, Refusal}
-use Rattle.chip.proofs.SwitchLaws.{starts_begins, begins_taken}
+use Rattle.framing.proofs.Laws.{starts_begins}
+use Rattle.chip.proofs.SwitchLaws.{begins_taken}
 
 words_length : (update_place : ℕ) → length (spi_warm_boot update_place) ≡ 20
 unfolding spi_warm_boot

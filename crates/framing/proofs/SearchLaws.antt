@@ -1,23 +1,37 @@
 -- Where a sync word begins, and what a search passes over.
 use Prim.Native.Nat.{ℕ, zero, suc, ◌+◌, ◌<◌, ◌≤◌}
-use mathlib.Core.Path.{◌≡◌, refl, sym, ◌∙◌}
-use mathlib.Core.Bool.{Bool, true, false}
+use mathlib.Core.Path.{◌≡◌, refl, sym, ap₂, ◌∙◌}
+use mathlib.Core.Bool.{Bool, true, false, ◌&&◌}
 use mathlib.Core.List.{List, [], ◌∷◌}
 use native.Mathlib.Nat.{add-zero}
 use native.Mathlib.Numerals.{add-one}
 use native.Mathlib.Omega.{arith}
-use borrow.Author.Tests.{eqb-true, eq-eqb}
+use borrow.Author.Tests.{eqb-true, eqb-false, eq-eqb, ne_eqb}
 use lib.Dec.{eqb}
 use lib.ListN.{length, get_or, drop, length-drop}
 use lib.Seq.{drop-cons, get_or-drop}
 use Rattle.base.proofs.Laws.{false_of, both_true}
 use Rattle.framing.specs.Search.{sync_bytes, begins_with, find}
 use Rattle.std.specs.Prelude.{Some, None}
-use Rattle.std.specs.List.{list_any}
+use Rattle.std.specs.List.{list_any, starts_with}
 use Rattle.std.proofs.lemmas.List.Folds.{list_any_at}
 use Rattle.base.proofs.Laws.{false_true}
 use Rattle.std.proofs.Common.{take, length-take}
 use Rattle.std.proofs.lemmas.List.{get_or-take}
+
+-- A slice's `starts_with` says the same as `begins_with`.
+same_test : (a b : ℕ) → eqb a b ≡ eqb b a
+same_test a b = go (eqb a b) refl
+  where
+    go : (t : Bool) → eqb a b ≡ t → eqb a b ≡ eqb b a
+    go true e = e ∙ sym (eq-eqb b a (sym (eqb-true a b e)))
+    go false e = e ∙ sym (ne_eqb b a (λ h. eqb-false a b e (sym h)))
+
+pub starts_begins : (pattern bytes : List ℕ) → starts_with eqb bytes pattern ≡ begins_with pattern bytes
+unfolding begins_with
+starts_begins [] bytes = refl
+starts_begins (p ∷ pattern) [] = refl
+starts_begins (p ∷ pattern) (byte ∷ bytes) = ap₂ ◌&&◌ (same_test p byte) (starts_begins pattern bytes)
 
 -- Where a pattern begins, its bytes stand.
 

@@ -1,4 +1,3 @@
-pub mod StartLaws
 pub mod FieldLaws
 pub mod TextLaws
 pub mod FormLaws

@@ -1,7 +1,7 @@
 -- `begins_as_bit` meets its contract.
 use mathlib.Core.Path.{◌∙◌}
 use Rattle.imagefile.specs.Imagefile.{bit_start}
-use Rattle.imagefile.proofs.StartLaws.{starts_begins}
+use Rattle.framing.proofs.Laws.{starts_begins}
 use Rattle.imagefile.proofs.begins_as_bit.Goals as goal
 
 pub returns : goal.returns
