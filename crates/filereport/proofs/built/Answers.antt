@@ -21,12 +21,12 @@ pub returns-in_err-ask : goal.returns-in_err-ask
 returns-in_err-ask c =
     let same : c.from_residual.result ≡ Err c.in_err-ask.field-0.0 = search rules in
     let no = asked_err _ NoRoom _ (sym c.ask.ensures ∙ c.in_err-ask.was) in
-    let long : 65536 < length c.args.text.now = leb-false _ _ no.0 in
+    let long = leb-false (length c.args.text.now) 65536 no.0 in
     rw same (reports_long c.args.text.now long ∙ ap (λ (r : Refusal). refused_line (number_of r.reason) r.place) no.1)
 
 -- The text is short enough.
 short : (c : In_ok-ask) → length c.args.text.now ≤ 65536
-short c = leb-true _ _ (asked_ok _ NoRoom (sym c.ask.ensures ∙ c.in_ok-ask.was))
+short c = leb-true (length c.args.text.now) 65536 (asked_ok _ NoRoom (sym c.ask.ensures ∙ c.in_ok-ask.was))
 
 pub returns-in_err-length : goal.returns-in_err-length
 returns-in_err-length c =
