@@ -71,9 +71,7 @@ fn read_number(text: &[u8]) -> Option<(usize, &[u8])>
     }
     let mut value = 0usize;
     for c in &text[..digits] {
-        value = value
-            .checked_mul(10)?
-            .checked_add(usize::from(*c & 0x0F))?;
+        value = value.checked_mul(10)?.checked_add(usize::from(*c & 0x0F))?;
     }
     let after = &text[digits..];
     Some((value, after.strip_prefix(b" ").unwrap_or(after)))

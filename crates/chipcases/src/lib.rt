@@ -126,11 +126,7 @@ fn all_packets(out: &mut impl Write, image: &[u8]) -> io::Result<()> {
     Ok(())
 }
 
-fn listed(
-    out: &mut impl Write,
-    bytes: &[u8],
-    listing: Result<Cursor, Refusal>,
-) -> io::Result<()> {
+fn listed(out: &mut impl Write, bytes: &[u8], listing: Result<Cursor, Refusal>) -> io::Result<()> {
     match listing {
         Ok(cursor) => all_writes(out, bytes, cursor),
         Err(refusal) => say::refused(out, refusal),

@@ -70,12 +70,7 @@ fn order(out: &mut impl Write, numbers: [usize; 8], image: &[u8]) -> io::Result<
     say::bytes(out, &answer.bytes)
 }
 
-fn reply(
-    out: &mut impl Write,
-    numbers: [usize; 8],
-    image: &[u8],
-    bytes: &[u8],
-) -> io::Result<()> {
+fn reply(out: &mut impl Write, numbers: [usize; 8], image: &[u8], bytes: &[u8]) -> io::Result<()> {
     let [said, f, u, a, n, phase, index, outcome] = numbers;
     let answer = tealsettle_reply(
         SPI,
