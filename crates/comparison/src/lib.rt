@@ -9,6 +9,9 @@ ghost use Rattle.comparison.specs.Comparison.{padded, differs};
 
 use base::copy;
 
+// Stays: no plainer: that bytes are no more than a page has, expected ones no more than those, and a place one of a chip, is asked
+// of one look's bytes on their way through three functions; a struct of the three would be made for `compare` alone.
+
 // Bytes, then FF to the end of a page.
 pub fn padded_page(bytes: &[u8]) -> [u8; 256]
     requires { length bytes.now ≤ page }

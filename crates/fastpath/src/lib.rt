@@ -97,6 +97,7 @@ fn skip_opening(s: &[u8], w: Scanner, register: u32) -> Scanner
     skip_words(s, opened, register, count, room)
 }
 
+// Stays: no plainer: that two words are there is tested once, by `skip_packets`, and asked of it by the three that go on from there.
 // The scanner after a packet of one data word; or as it was. CMD is asked first, so that its packets wait for no other test;
 // of every other register one test says both that it may be named and that its word is only counted. So the commonest packets
 // cost no more tests than if every register might be named.

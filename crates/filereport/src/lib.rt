@@ -22,6 +22,7 @@ use report::{boot, refusal};
 const LONGEST: usize = 65_536;
 
 // Room for the chip, and for every image that so long a text can hold. Nothing counts on the zeros.
+// Stays: fixed memory, of one size.
 fn buffer() -> [u8; 32768]
     ensures { 32768 ≡ length result }
 {

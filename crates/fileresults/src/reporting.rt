@@ -5,7 +5,8 @@ ghost use Rattle.fileresults.specs.Reporting.{report_result};
 use base::refusal::Refusal;
 
 // A refusal's number and place, or 0, 0 and how many bytes the report has.
-// Stays: the C interface gets an answer as a struct of numbers, with a refusal's number and place in front.
+// Stays: the C interface gets an answer as a struct of numbers, with a refusal's number and place in front, and each struct calls its
+// own number what it is: so those of one shape are no generic type.
 #[repr(C)]
 #[derive(Default, Drop)]
 pub struct TealsettleReport {

@@ -18,6 +18,7 @@ fn skip_after(last: u8) -> usize
     }
 }
 
+// Stays: no plainer: with the slice from `from` on in place of both, the places that are answered would be counted from there.
 // The place after as many blocks of 32 bytes as no sync word can begin in. In each all bytes are compared at once. In bytes with
 // many AA in them, longer blocks would cost more than they save.
 fn past_clear(s: &[u8], from: usize) -> usize

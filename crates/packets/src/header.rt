@@ -47,6 +47,8 @@ fn is_in(registers: u32, register: u32) -> bool
 }
 
 // May a write header name this register?
+// Stays: no plainer: a register is a rest by 32 where it is read off a word; a type with that bound would be taken apart at each
+// shift, here and in `fastpath`.
 pub fn register_ok(register: u32) -> bool
     requires { register < 32 }
     ensures { result ≡ register_ok register }

@@ -5,7 +5,8 @@ ghost use Rattle.runresults.specs.Counts.{total_result, progress_result};
 use base::refusal::Refusal;
 use starts::RunProgress;
 
-// Stays: the C interface gets each answer as a struct of numbers, with a refusal's number and place in front.
+// Stays: the C interface gets each answer as a struct of numbers, with a refusal's number and place in front, and each struct calls
+// its own numbers what they are: so those of one shape are no generic type.
 
 // A refusal's number and place, or 0, 0 and how many orders.
 #[repr(C)]

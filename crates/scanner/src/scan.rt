@@ -25,6 +25,8 @@ pub enum Status {
 // opened it to a type 2 header; whether it goes on; the data words left in the packet; the writes
 // to pass before the wanted one; the writes passed; the last WBSTAR word. It is a plain record with no
 // wide gaps between its fields, so that it can stay in registers from step to step.
+// Stays: no plainer: the bytes and a scanner go together through the steps; in one struct each step would hand the bytes back too.
+// Stays: no plainer: that no more writes were passed than bytes (`w.writes ≤ w.at`) is asked where one is added, of the same record.
 // Stays: no plainer: `register` is also that of the data words left, when it opens nothing, so `opened` makes no Option of it.
 // Stays: no plainer: a type for a scanner before a header (`AtHeader`) would be this one less two fields, copied to and fro.
 #[derive(Clone, Copy)]
