@@ -11,6 +11,7 @@ pub fn read_full(from: &mut impl Read, buffer: &mut [u8]) -> usize
     ensures { result ≤ length buffer.new }
 {
     let mut size = 0;
+    // Stays: no plainer: each read says how far on the next place is, so there is no range to go over.
     while size < buffer.len() {
         let more = from.read(&mut buffer[size..]).unwrap_or(0);
         if more == 0 {
