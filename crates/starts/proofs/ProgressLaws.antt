@@ -9,7 +9,7 @@ use lib.ListN.{length, drop}
 use Rattle.std.specs.Prelude.{Option, Some, None, Result, Ok, Err}
 use Rattle.base.specs.Question.{ask}
 use Rattle.base.specs.Refusal.{refused}
-use Rattle.core.specs.Option.{is_none}
+use Rattle.std.specs.Option.{is_none}
 use Rattle.base.proofs.Laws.{asked, false_true}
 use Rattle.kind.specs.Layout.{longest_chip}
 use Rattle.kind.specs.Kind.{Kind}

@@ -9,7 +9,7 @@ use lib.ListN.{length}
 use Rattle.std.specs.Prelude.{Option, Some, None, Result, Ok, Err}
 use Rattle.base.specs.Question.{ask}
 use Rattle.base.specs.Refusal.{refused}
-use Rattle.core.specs.Result.{is_err}
+use Rattle.std.specs.Result.{is_err}
 use Rattle.base.proofs.Laws.{asked, false_true}
 use Rattle.flash.specs.Flash.{erased}
 use Rattle.kind.specs.Kind.{Kind}
