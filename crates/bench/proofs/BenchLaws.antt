@@ -12,7 +12,7 @@ use Rattle.base.specs.Refusal.{refused}
 use Rattle.base.specs.Question.{ask}
 use Rattle.kind.specs.Layout.{chip_length_allowed, image_length_allowed, page, segment, switch_at, update_place_allowed, update_length_allowed, ask_layout}
 use Rattle.bootreader.specs.Image.{alone_case}
-use Rattle.bench.specs.Types.{BadChipLength, BadUpdatePlace, BadUpdateLength, BadImageLength, Refusal, Outcome, Loaded, OutcomeIprog, Stuck, Layout, State, Operation, Erase, Program, Look}
+use Rattle.bench.specs.Types.{Reason, BadChipLength, BadUpdatePlace, BadUpdateLength, BadImageLength, Refusal, Outcome, Loaded, OutcomeIprog, Stuck, Layout, State, Operation, Erase, Program, Look}
 use Rattle.kind.proofs.Laws.{chip_length_range, update_place_range}
 use Rattle.flash.specs.Flash.{erased, span, overwrite_in_range, cleared, after_program}
 use Rattle.kind.specs.Kind.{Kind}
@@ -216,27 +216,27 @@ cut_at begun image cut state opens fit comes = record {
     to_cut chip = ⊎_elim (ap (λ (i : ℕ). chip_after spi begun.layout image i chip)) (λ e. chip_all spi begun.layout image chip k cut e.0 e.1) which
 
 -- THE START. What a start's answer comes to for one who asks more,
-unfoldable pub on_start : {A : Type 0} → Result A Refusal → Result State Refusal → Result A Refusal
-on_start rest (Ok state) = rest
-on_start rest (Err r) = Err r
+unfoldable pub on_start {ℓ} : {A : Type ℓ} → (Reason → ℕ → A) → A → Result State Refusal → A
+on_start refuse rest (Ok state) = rest
+on_start refuse rest (Err r) = refuse r.reason r.place
 
 -- and whatever is asked of a run goes by it.
-pub by_start : {A : Type 0} (kind : Kind) (rest : Result A Refusal) (layout : Layout) (image : List ℕ) → on_start rest (start_answer kind layout image) ≡ ask_run kind refused layout image rest
+pub by_start {ℓ} : {A : Type ℓ} (kind : Kind) (refuse : Reason → ℕ → A) (rest : A) (layout : Layout) (image : List ℕ) → on_start refuse rest (start_answer kind layout image) ≡ ask_run kind refuse layout image rest
 unfolding start_answer ask_run ask_layout ask alone_case on_start
-by_start {A} kind rest layout image =
+by_start kind refuse rest layout image =
     go (chip_length_allowed layout.chip_length) (update_place_allowed layout.chip_length layout.update_place) (update_length_allowed layout.chip_length layout.update_place layout.update_length) (image_length_allowed layout.update_length (length image)) (kind.alone image)
   where
     begun : Result State Refusal
     begun = Ok (first layout (length image))
 
-    read : (o : Outcome) → on_start rest (alone_case refused (λ sync end writes. begun) o) ≡ alone_case refused (λ sync end writes. rest) o
+    read : (o : Outcome) → on_start refuse rest (alone_case refused (λ sync end writes. begun) o) ≡ alone_case refuse (λ sync end writes. rest) o
     read (Loaded sync end writes jumped) = refl
     read (OutcomeIprog place) = refl
     read (Stuck place) = refl
 
     go : (a b c d : Bool) (o : Outcome) →
-        on_start rest (ask a (refused BadChipLength 0) (ask b (refused BadUpdatePlace 0) (ask c (refused BadUpdateLength 0) (ask d (refused BadImageLength 0) (alone_case refused (λ sync end writes. begun) o)))))
-        ≡ ask a (refused BadChipLength 0) (ask b (refused BadUpdatePlace 0) (ask c (refused BadUpdateLength 0) (ask d (refused BadImageLength 0) (alone_case refused (λ sync end writes. rest) o))))
+        on_start refuse rest (ask a (refused BadChipLength 0) (ask b (refused BadUpdatePlace 0) (ask c (refused BadUpdateLength 0) (ask d (refused BadImageLength 0) (alone_case refused (λ sync end writes. begun) o)))))
+        ≡ ask a (refuse BadChipLength 0) (ask b (refuse BadUpdatePlace 0) (ask c (refuse BadUpdateLength 0) (ask d (refuse BadImageLength 0) (alone_case refuse (λ sync end writes. rest) o))))
     go true true true true o = read o
     go true true true false o = refl
     go true true false d o = refl

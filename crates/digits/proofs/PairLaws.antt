@@ -7,7 +7,8 @@ use native.Mathlib.Omega.{arith}
 use borrow.Author.Count.{below_more}
 use lib.ListN.{length, get_or, take, drop}
 use Rattle.digits.specs.Digit.{byte_sum}
-use Rattle.digits.specs.Pairs.{pair_at, IsPair, ArePairs, pairs_at}
+use Rattle.std.specs.Prelude.{Option, Some, None}
+use Rattle.digits.specs.Pairs.{pair_at, IsPair, ArePairs, pairs_at, Summed}
 
 module _ (text : List ℕ) where
   on : (at j : ℕ) → at + 2 + 2 * j ≡ at + 2 * suc j
@@ -44,3 +45,12 @@ module _ (text : List ℕ) where
 
   pub are_more : (at k : ℕ) → ArePairs text at k → IsPair text (at + 2 * k) → ArePairs text at (k + 1)
   are_more at k h p = below_more (λ (j : ℕ). IsPair text (at + 2 * j)) k h p
+
+-- What the sum of pairs told: that they are pairs, and what they add to; or that one is none.
+pub summed_pairs : (text : List ℕ) (at count n : ℕ) (s : Option ℕ) → Summed text at count s → s ≡ Some n → ArePairs text at count × (n ≡ byte_sum (pairs_at text at count))
+unfolding Summed
+summed_pairs text at count n s h e = rw e at h
+
+pub summed_none : (text : List ℕ) (at count : ℕ) (s : Option ℕ) → Summed text at count s → s ≡ None → ArePairs text at count → ⊥
+unfolding Summed
+summed_none text at count s h e = rw e at h

@@ -1,6 +1,6 @@
 -- Laws of text put into a buffer, one piece after the other.
 use Prim.Native.Nat.{ℕ, suc, ◌+◌, ◌-◌, ◌<◌, ◌≤◌}
-use mathlib.Core.Path.{◌≡◌, refl, sym, ap, ap₂, ◌∙◌}
+use mathlib.Core.Path.{◌≡◌, refl, sym, ap, ap₂, ◌∙◌, subst}
 use mathlib.Core.List.{List, [], ◌∷◌, ◌++◌, append_assoc, append-nil}
 use native.Mathlib.Nat.{add_assoc, zero-add}
 use native.Mathlib.Numerals.{add-one}
@@ -91,3 +91,19 @@ put_front {text} {buffer} {after} {count} p =
     front_fits text buffer (omega (arith, p.long, p.room))
     ∙ ap₂ (λ (s : List ℕ) (k : ℕ). s ++ drop k buffer) (sym (take_all count text (omega (arith, p.long)))) place
     ∙ sym p.is
+
+-- All of it was put.
+pub put_whole : {before text after : List ℕ} {at count : ℕ} → Put before at text count after → after ≡ paste before at text (length text)
+put_whole {before} {text} {after} {at} p = p.is ∙ ap (λ (k : ℕ). paste before at text k) (sym p.long)
+
+-- Then comes one byte.
+pub put_byte : {before s mid : List ℕ} {at m : ℕ} → Put before at s m mid → (x : ℕ) → at + m < length before → Put before at (s ++ x ∷ []) (m + 1) (set mid (at + m) x)
+put_byte {before} {s} {mid} {at} {m} p x h =
+    put_then p (x ∷ []) 1 (set mid (at + m) x) refl (omega arith) (paste_one mid (at + m) x (omega (arith, put_length p)))
+
+-- Then comes a field: a number's digits and the byte after them.
+pub put_field : {before s mid : List ℕ} {at m : ℕ} → Put before at s m mid → (next : ℕ) (t : List ℕ) (n x : ℕ) (after : List ℕ) → next ≡ at + m → length t ≡ n → at + (m + (n + 1)) ≤ length before →
+    after ≡ paste mid next (t ++ x ∷ []) (n + 1) → Put before at (s ++ t ++ x ∷ []) (m + (n + 1)) after
+put_field {before} {s} {at = at} {m = m} p next t n x after here long room e =
+    subst (λ (l : List ℕ). Put before at l (m + (n + 1)) after) (sym (append_assoc s t (x ∷ [])))
+    (put_after p next (t ++ x ∷ []) (n + 1) after here (omega (arith, length-append t (x ∷ []))) room e)

@@ -45,7 +45,7 @@ bench_lives kind lawful layout chip image k damage state e long bytes small = go
         BenchLife kind layout chip image k damage state
     go (Ok begun) q =
         let o = opened kind lawful layout image begun q in
-        let r : asks ≡ Ok state = sym (ap (on_start asks) q) ∙ by_start kind asks layout image ∙ e in
+        let r : asks ≡ Ok state = sym (ap (on_start refused asks) q) ∙ by_start kind refused asks layout image ∙ e in
         let a = asked _ _ _ _ r (no_state _) in
         let l = cut_run kind lawful layout.update_place layout image o.numbers o.alone bytes damage small (fresh chip) k long refl a.0 in
         let t = run_state kind lawful layout.update_place layout image o.numbers o.alone bytes k (fresh chip) long refl in
@@ -59,4 +59,4 @@ bench_lives kind lawful layout chip image k damage state e long bytes small = go
               ∙ ap (λ (s : State). Some (record { state = s; image = image; carried = false })) is;
           ends = λ h. sym is ∙ run_ended_law kind lawful layout.update_place layout image o.numbers o.alone bytes k h (fresh chip) long refl;
         }
-    go (Err r) q = absurd (no_state r (sym (ap (on_start asks) q) ∙ by_start kind asks layout image ∙ e))
+    go (Err r) q = absurd (no_state r (sym (ap (on_start refused asks) q) ∙ by_start kind refused asks layout image ∙ e))

@@ -27,9 +27,9 @@ use Rattle.bench.proofs.cut_run.Goals as goal
 abbrev cut_answer : Layout → List ℕ → List ℕ → ℕ → List ℕ → Result State Refusal
 cut_answer layout chip image cut damage = ask (cut_allowed (drop cut (orders spi layout image)) (chip_after spi layout image cut chip) damage) (refused BadDamage 0) (Ok (state_at layout image cut))
 
-by-begun : (layout : Layout) (chip image : List ℕ) (cut : ℕ) (damage : List ℕ) (answer : Result State Refusal) → start_answer spi layout image ≡ answer → on_start (cut_answer layout chip image cut damage) answer ≡ bench_answer spi layout chip image cut damage
+by-begun : (layout : Layout) (chip image : List ℕ) (cut : ℕ) (damage : List ℕ) (answer : Result State Refusal) → start_answer spi layout image ≡ answer → on_start refused (cut_answer layout chip image cut damage) answer ≡ bench_answer spi layout chip image cut damage
 unfolding bench_answer
-by-begun layout chip image cut damage answer e = ap (on_start (cut_answer layout chip image cut damage)) (sym e) ∙ by_start spi (cut_answer layout chip image cut damage) layout image
+by-begun layout chip image cut damage answer e = ap (on_start refused (cut_answer layout chip image cut damage)) (sym e) ∙ by_start spi refused (cut_answer layout chip image cut damage) layout image
 
 -- The state of a run that is started: its layout, and that it is the first.
 begun_first : (layout : Layout) (image : List ℕ) (state : State) → start_answer spi layout image ≡ Ok state → (state.layout ≡ layout) × (state ≡ first state.layout (length image)) × (fits state (length image) ≡ true)
