@@ -39,6 +39,7 @@ fn may_skip(s: &[u8], at: usize, register: u32, count: usize, room: usize) -> bo
 
 // The scanner after the packet of a header at its place; or as it was, where the packet cannot be skipped
 // at once.
+// Stays: SkipKeeps holds it that "or as it was" is an answer here and below, and no Option: a scanner is handed on in every case.
 #[tactic(auto, using(framing::proofs::Laws::room, crate::proofs::SkipLaws::past_none, crate::proofs::SkipLaws::past_whole))]
 fn skip_data(s: &[u8], w: Scanner, register: u32, count: usize, room: usize) -> Scanner
     requires { HasRoom s.now w count room × (1 ≤ count → PacketBegins s.now w register count) }
@@ -97,10 +98,10 @@ fn skip_opening(s: &[u8], w: Scanner, register: u32) -> Scanner
     skip_words(s, opened, register, count, room)
 }
 
-// Stays: no plainer: that two words are there is tested once, by `skip_packets`, and asked of it by the three that go on from there.
 // The scanner after a packet of one data word; or as it was. CMD is asked first, so that its packets wait for no other test;
 // of every other register one test says both that it may be named and that its word is only counted. So the commonest packets
 // cost no more tests than if every register might be named.
+// Stays: no plainer: that two words are there is tested once, by `skip_packets`, and asked of it by the three that go on from there.
 #[tactic(auto, using(framing::proofs::Laws::room, crate::proofs::SkipLaws::past_none, crate::proofs::SkipLaws::plain_begins, crate::proofs::SkipLaws::begins_type1, packets::proofs::Laws::command_ok))]
 fn skip_one(s: &[u8], w: Scanner, register: u32) -> Scanner
     requires { AtHeader w × (w.at + 8 ≤ length s.now) × (register < 32) × (register_ok register ≡ true → head_of (word_at s.now w.at) ≡ Type1 register 1) }

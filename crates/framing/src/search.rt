@@ -18,15 +18,16 @@ fn skip_after(last: u8) -> usize
     }
 }
 
-// Stays: no plainer: with the slice from `from` on in place of both, the places that are answered would be counted from there.
 // The place after as many blocks of 32 bytes as no sync word can begin in. In each all bytes are compared at once. In bytes with
 // many AA in them, longer blocks would cost more than they save.
+// Stays: no plainer: with the slice from `from` on in place of both, the places that are answered would be counted from there.
 fn past_clear(s: &[u8], from: usize) -> usize
     requires { from ≤ length s.now }
     ensures { (from ≤ result) × (result ≤ length s.now) × (find (drop result s.now) result ≡ find (drop from s.now) from) }
 {
     let mut at = from;
-    // Stays: no plainer: what is asked for is the place where the blocks end; a chain over blocks gives their number.
+    // Stays: no plainer: a chain over `chunks_exact(32)` counts the blocks, and a product makes a place of their number again,
+    // whose bound would be one more proof; the loop's `at` is the place all along.
     while s.len() - at >= 32 && !s[at..at + 32].contains(&SYNC[0]) {
         at += 32;
     }
@@ -35,8 +36,8 @@ fn past_clear(s: &[u8], from: usize) -> usize
 
 // The first place at or after `from` where four bytes read AA 99 55 66, at any byte. Where they do
 // not, the fourth says how far on the next place is at which they can: four bytes, mostly.
-// Stays: document 01, "Language forms", holds it: a loop that yields the sync place by break, and in it a comparison of bytes
-// that is left by a label.
+// Stays: docs/DECISIONS.md, "Language forms", holds it: a loop that yields the sync place by break, and in it a comparison of
+// bytes that is left by a label.
 pub fn find_sync(s: &[u8], from: usize) -> Option<usize>
     requires { from ≤ length s.now }
     ensures { result ≡ find (drop from s.now) from }

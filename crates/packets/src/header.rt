@@ -10,11 +10,13 @@ pub const WBSTAR: u32 = 16;
 // The header of a no-operation: there is but one.
 pub const NOP: u32 = 0x2000_0000;
 
-const DESYNC: u32 = 0x0000_000D;
+// The word to CMD that ends the reading.
+pub const DESYNC: u32 = 0x0000_000D;
 
 const IPROG: u32 = 0x0000_000F;
 
 // What a word says as a header.
+// Stays: head_of holds it: Fault is a case of its own in document 01's rules.
 #[derive(Clone, Copy, PartialEq, Eq)]
 pub enum Header {
     Nop,
@@ -47,7 +49,7 @@ fn is_in(registers: u32, register: u32) -> bool
 }
 
 // May a write header name this register?
-// Stays: no plainer: a register is a rest by 32 where it is read off a word; a type with that bound would be taken apart at each
+// Stays: no plainer: a register is a remainder by 32 where it is read off a word; a type with that bound would be taken apart at each
 // shift, here and in `fastpath`.
 pub fn register_ok(register: u32) -> bool
     requires { register < 32 }

@@ -26,9 +26,12 @@ pub enum Status {
 // to pass before the wanted one; the writes passed; the last WBSTAR word. It is a plain record with no
 // wide gaps between its fields, so that it can stay in registers from step to step.
 // Stays: no plainer: the bytes and a scanner go together through the steps; in one struct each step would hand the bytes back too.
-// Stays: no plainer: that no more writes were passed than bytes (`w.writes ≤ w.at`) is asked where one is added, of the same record.
-// Stays: no plainer: `register` is also that of the data words left, when it opens nothing, so `opened` makes no Option of it.
-// Stays: no plainer: a type for a scanner before a header (`AtHeader`) would be this one less two fields, copied to and fro.
+// Stays: no plainer: that no more writes were passed than bytes (`w.writes ≤ w.at`) is asked where one is added. A ghost field
+// would ask it of every scanner, also of one that is built field by field between two steps, so each would prove it.
+// Stays: no plainer: `register` is also that of the packet whose data words are left, and then `opened` is false: no Option says
+// both.
+// Stays: no plainer: a type for a scanner before a header (`AtHeader`), as `Running` is one of a state, would be put around it and
+// taken off at each step of the hot loop.
 #[derive(Clone, Copy)]
 pub struct Scanner {
     pub at: usize,
