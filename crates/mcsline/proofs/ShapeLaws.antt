@@ -185,6 +185,10 @@ module _ (text : List ℕ) (at : ℕ) (inside : at < length text) (sound : Sound
   pub sound_long : at + 2 * pair_at text (at + 1) + 12 ≤ length text
   sound_long = let l = formed_long text at inside (sound_formed text at inside sound) in omega arith
 
+  -- so it has a line end
+  pub sound_ended : ending_at text (after_pairs text at) ≡ 0 → ⊥
+  sound_ended z = let e : 1 ≤ ending_at text (after_pairs text at) = (sound_formed text at inside sound).ending in omega arith
+
   sound_orderly : Orderly text at (pair_at text (at + 1)) (after_pairs text at + ending_at text (after_pairs text at))
   sound_orderly = orderly text at inside (sound_formed text at inside sound)
 
@@ -205,4 +209,4 @@ module _ (text : List ℕ) (at : ℕ) (inside : at < length text) (sound : Sound
       go (Ok End) e = refl
 
 -- what `line::parse_sound` goes by
-pub ruleset sound_lines = (sound_long, sound_line, sound_is)
+pub ruleset sound_lines = (sound_long, sound_ended, sound_line, sound_is)

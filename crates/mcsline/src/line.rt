@@ -1,5 +1,5 @@
 // One line of the text: its characters, its sum, its record.
-ghost use Rattle.std.specs.Prelude.{◌≡◌, ◌+◌, ◌*◌, ◌<◌, ◌≤◌, eqb, leb, length};
+ghost use Rattle.std.specs.Prelude.{◌≡◌, ◌+◌, ◌*◌, ◌<◌, ◌≤◌, eqb, leb, length, MatchOption};
 ghost use Rattle.base.specs.Question.{ask};
 ghost use Rattle.digits.specs.Pairs.{pair_at, two_pairs_at, pairs_at};
 ghost use Rattle.mcsline.specs.Line.{typed, parsed};
@@ -40,23 +40,22 @@ pub enum Line {
     },
 }
 
-// The length of the line end at `at`: LF or CR LF, or 0 for none.
-// Stays: no plainer: a struct of table, text and a place within it would be made for each call of `parse` and taken apart in each function.
+// The length of the line end at `at`, LF or CR LF; none where no line ends there.
 #[tactic(auto, unfolding(crate::specs::Place::ending_of))]
-fn ending(text: &[u8], at: usize) -> usize
+fn ending(text: &[u8], at: usize) -> Option<usize>
     requires { at < length text.now }
-    ensures value { result ≡ ending_at text.now at }
-    ensures range { result ≤ 2 }
+    ensures { MatchOption result (ending_at text.now at ≡ 0) (λ long. (long ≡ ending_at text.now at) × (1 ≤ long) × (long ≤ 2)) }
 {
     match &text[at..] {
-        [LF, ..] => 1,
-        [CR, LF, ..] => 2,
-        _ => 0,
+        [LF, ..] => Some(1),
+        [CR, LF, ..] => Some(2),
+        _ => None,
     }
 }
 
 // The characters of the line at `at`: a colon, as many pairs as its count says and five more, and a
 // line end, so 12 characters at least.
+// Stays: no plainer: a struct of table, text and a place within it would be made for each call of `parse` and taken apart in each function.
 #[tactic(auto, using(crate::proofs::ShapeLaws::shapes))]
 fn shape_of(digits: &Digits, text: &[u8], at: usize) -> Option<Shape>
     requires { at < length text.now }
@@ -75,11 +74,7 @@ fn shape_of(digits: &Digits, text: &[u8], at: usize) -> Option<Shape>
     }
     let sum = digits.sum_pairs(text, at + 1, count + 5)?;
     let after = at + 2 * count + 11;
-    let ended = ending(text, after);
-    if ended == 0 {
-        return None;
-    }
-    let end = after + ended;
+    let end = after + ending(text, after)?;
     Some(Shape { count, sum, end })
 }
 
@@ -136,6 +131,7 @@ fn extended_address_line(
 }
 
 // The record of a line whose characters are in order.
+// Stays: typed (mcsline) holds it: a record's type is a byte of its text, and every other byte is refused.
 #[tactic(auto, using(crate::proofs::TypeLaws::typings))]
 fn typed_line(
     digits: &Digits,
@@ -148,8 +144,7 @@ fn typed_line(
     ensures { result ≡ as_line (typed (pairs_at text.now (at + 1) (count + 5))) end }
 {
     let address = digits.two_pairs(text, at + 3);
-    let kind = digits.pair(text, at + 7);
-    match kind {
+    match digits.pair(text, at + 7) {
         0x00 => data_line(address, count, end),
         0x01 => end_line(address, count, end),
         0x04 => extended_address_line(digits, text, at, address, count, end),
@@ -179,6 +174,6 @@ pub fn parse_sound(digits: &Digits, text: &[u8], at: usize) -> Line
 {
     let count = digits.pair(text, at + 1) as usize;
     let after = at + 2 * count + 11;
-    let end = after + ending(text, after);
+    let end = after + ending(text, after).unwrap();
     typed_line(digits, text, at, count, end).unwrap()
 }
