@@ -32,10 +32,7 @@ impl Digits {
         for i in 0..count {
             let high = self.digit(text[at + 2 * i]);
             let low = self.digit(text[at + 2 * i + 1]);
-            if 15 < high {
-                return None;
-            }
-            if 15 < low {
+            if 15 < high || 15 < low {
                 return None;
             }
             sum += 16 * high + low;
@@ -43,8 +40,8 @@ impl Digits {
         Some(sum)
     }
 
-    // Stays: no plainer: as slices in place of the places in them, the caller would cut both out, the buffer's at bounds of its own to prove.
     // Decodes pairs from `from` into as many bytes at `to`.
+    // Stays: no plainer: as slices in place of the places in them, the caller would cut both out, the buffer's at bounds of its own to prove.
     pub fn decode(&self, text: &[u8], from: usize, out: &mut [u8], to: usize, bytes: usize)
         requires { (from + 2 * bytes ≤ length text.now) × (to + bytes ≤ length out.old) × ArePairs text.now from bytes }
         ensures { out.new ≡ paste out.old to (pairs_at text.now from bytes) bytes }

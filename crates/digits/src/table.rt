@@ -6,6 +6,7 @@ ghost use Rattle.digits.specs.Table.{DigitTable};
 // The value of each character as a capital hexadecimal digit, 16 where it is none. It is a table
 // because what digit a character is cannot be foreseen, so that a branch on it costs more than all
 // else.
+// Stays: no plainer: a table of Options would hold two bytes a character, and each pair of digits would take two of them apart.
 const VALUES: [u8; 256] = [
     16, 16, 16, 16, 16, 16, 16, 16, 16, 16, 16, 16, 16, 16, 16, 16, 16, 16, 16, 16, 16, 16, 16, 16,
     16, 16, 16, 16, 16, 16, 16, 16, 16, 16, 16, 16, 16, 16, 16, 16, 16, 16, 16, 16, 16, 16, 16, 16,

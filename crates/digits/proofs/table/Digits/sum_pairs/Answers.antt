@@ -15,10 +15,6 @@ pub returns-then-high-gt15 : goal.returns-then-high-gt15
 unfolding Summed
 returns-then-high-gt15 c = λ h. let k : IsPair c.args.text.now (c.args.at + 2 * c.loop-i.i) = h c.loop-i.i (omega arith) in omega arith
 
-pub returns-then-low-gt15 : goal.returns-then-low-gt15
-unfolding Summed
-returns-then-low-gt15 c = λ h. let k : IsPair c.args.text.now (c.args.at + 2 * c.loop-i.i) = h c.loop-i.i (omega arith) in omega arith
-
 pub loop-i-preserved : goal.loop-i-preserved
 loop-i-preserved c =
     let text = c.args.text.now in
