@@ -28,6 +28,7 @@ pub struct Packet {
     pub register: u32,
     pub first: usize,
     pub count: usize,
+    // Stays: place_after and reader_after hold it: a packet with DESYNC has the place after all bytes as its next.
     pub next: usize,
 }
 
@@ -50,17 +51,17 @@ fn ended_packet(
     ensures { result ≡ end_answer image.now register first run (effect_of register (get_or (words (drop first image.now)) run 0)) }
 {
     let place = first + 4 * run;
-    let count = run + 1;
-    let next = image.len() + 1;
-    let reason = Reason::ImageJumps;
     match effect_of(register, word_at(image, place)) {
         Effect::Desync => Ok(Some(Packet {
             register,
             first,
-            count,
-            next,
+            count: run + 1,
+            next: image.len() + 1,
         })),
-        Effect::Iprog => Err(Refusal { reason, place }),
+        Effect::Iprog => {
+            let reason = Reason::ImageJumps;
+            Err(Refusal { reason, place })
+        }
         // never met by `whole_packet`, which asks only at a word that does not let the reading go on
         Effect::GoesOn => Ok(None),
     }
@@ -171,7 +172,7 @@ impl<'a> Reader<'a> {
 
     // The next packet, and the reader moves past it; or that all were given, or refusal 4, 5 or 6, and the reader stays.
     #[tactic(auto, unfolding(crate::specs::Imagereader::place_after), using(base::proofs::Laws::gives))]
-    pub fn next<'s>(&'s mut self) -> Result<Option<Packet>, Refusal>
+    pub fn next(&mut self) -> Result<Option<Packet>, Refusal>
         ensures { Gives packet_numbers result (next_of self.old) × (self.new ≡ reader_after self.old) }
     {
         let next = packet_at(self.image, self.at)?;
