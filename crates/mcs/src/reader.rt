@@ -81,21 +81,15 @@ fn fill(digits: &Digits, text: &[u8], out: &mut [u8])
     // Stays: no plainer: an iterator of lines would carry each line's place and its end beside it, and promise all that `parse` does.
     while at < text.len() {
         match parse_sound(digits, text, at) {
-            Line::Data {
-                address: _,
-                count,
-                end,
-            } => {
+            Line::Data { count, end, .. } => {
                 digits.decode(text, at + 9, out, next, count);
                 next += count;
                 at = end;
             }
-            Line::ExtendedLinearAddress { half: _, end } => {
+            Line::ExtendedLinearAddress { end, .. } => {
                 at = end;
             }
-            Line::End { end: _ } => {
-                return;
-            }
+            Line::End { .. } => return,
         }
     }
 }
