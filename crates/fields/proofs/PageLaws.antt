@@ -11,19 +11,20 @@ use Rattle.fields.specs.declared.Page.{Page}
 use Rattle.fields.proofs.PutLaws.{Put, put_front, paste_paste}
 
 -- With the text in the buffer, and the place after it, it was put.
-pub wrote_is : (first last : Page) (text : List ℕ) → first.at + length text ≤ length first.out.now → last.at ≡ first.at + length text → last.out.now ≡ paste first.out.now first.at text (length text) → Wrote first last text
-wrote_is first last text room place is =
-    record { room = room; place = place; long = ap (λ (d : List ℕ). length d) is ∙ length-paste first.out.now first.at text (length text) room (omega arith); is = is }
+pub wrote_is : (first last : Page) (text : List ℕ) → last.out.ghost_name ≡ first.out.ghost_name → first.at + length text ≤ length first.out.now → last.at ≡ first.at + length text → last.out.now ≡ paste first.out.now first.at text (length text) → Wrote first last text
+wrote_is first last text same room place is =
+    record { same = same; room = room; place = place; long = ap (λ (d : List ℕ). length d) is ∙ length-paste first.out.now first.at text (length text) room (omega arith); is = is }
 
 -- Nothing to put leaves a page as it is.
 pub wrote_nothing : (page : Page) → page.at ≤ length page.out.now → Wrote page page []
-wrote_nothing page within = wrote_is page page [] (omega arith) (omega arith) (paste-zero page.out.now page.at [])
+wrote_nothing page within = wrote_is page page [] refl (omega arith) (omega arith) (paste-zero page.out.now page.at [])
 
 -- A text and then another are the two of them.
 pub wrote_then : {first mid last : Page} {s t : List ℕ} → Wrote first mid s → Wrote mid last t → Wrote first last (s ++ t)
 wrote_then {first} {mid} {last} {s} {t} one two =
     let both : length (s ++ t) ≡ length s + length t = length-append s t in
     record {
+      same = two.same ∙ one.same;
       room = omega (arith, one.place, one.long, two.room);
       place = omega (arith, one.place, two.place);
       long = two.long ∙ one.long;

@@ -3,8 +3,9 @@ use Rattle.std.specs.Prelude.{ℕ, ◌≡◌, ◌≤◌, ◌+◌, List, length}
 use Rattle.std.proofs.Math.Seq.{paste}
 use Rattle.fields.specs.declared.Page.{Page}
 
--- A text was put at that place, where there was room for it, and the next place is after it.
+-- A text was put at that place of the same buffer, where there was room for it, and the next place is after it.
 pub record Wrote (before after : Page) (text : List ℕ) : Type 0 where
+  pub same : after.out.ghost_name ≡ before.out.ghost_name
   pub room : before.at + length text ≤ length before.out.now
   pub place : after.at ≡ before.at + length text
   pub long : length after.out.now ≡ length before.out.now

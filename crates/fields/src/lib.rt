@@ -10,6 +10,7 @@ ghost use Rattle.digits.specs.Digit.{hexadecimal};
 use digits::digit::characters;
 
 // A buffer, and the place in it where the next text goes.
+// Stays: no plainer: how much room a text needs differs from line to line; each method asks for its own, and no invariant says it.
 #[derive(Drop)]
 pub struct Page<'a> {
     pub out: &'a mut [u8],
@@ -29,8 +30,7 @@ impl<'a> Page<'a> {
     // Copies a text.
     pub fn put(&mut self, text: &[u8])
         requires { self.old.at + length text.now ≤ length self.old.out.now }
-        ensures same { self.new.out.ghost_name ≡ self.old.out.ghost_name }
-        ensures wrote { Wrote self.old self.new text.now }
+        ensures { Wrote self.old self.new text.now }
     {
         base::copy(text, &mut self.out[self.at..]);
         self.at += text.len();
@@ -40,8 +40,7 @@ impl<'a> Page<'a> {
     // Stays: no heap, and the contract says every byte: numbers are written by hand here and in put_decimal, not by a Display.
     pub fn put_hexadecimal(&mut self, count: usize, value: usize)
         requires { self.old.at + count ≤ length self.old.out.now }
-        ensures same { self.new.out.ghost_name ≡ self.old.out.ghost_name }
-        ensures wrote { Wrote self.old self.new (hexadecimal count value) }
+        ensures { Wrote self.old self.new (hexadecimal count value) }
     {
         let characters = characters();
         let mut rest = value;
@@ -56,13 +55,12 @@ impl<'a> Page<'a> {
     // calls itself, 20 calls deep at most.
     pub fn put_decimal(&mut self, value: usize)
         requires { self.old.at + length (decimal value) ≤ length self.old.out.now }
-        ensures same { self.new.out.ghost_name ≡ self.old.out.ghost_name }
-        ensures wrote { Wrote self.old self.new (decimal value) }
+        ensures { Wrote self.old self.new (decimal value) }
     {
         if value >= 10 {
             self.put_decimal(value / 10);
         }
-        self.put(&[(48 + value % 10) as u8]);
+        self.put(&[b'0' + (value % 10) as u8]);
     }
 }
 

@@ -27,12 +27,12 @@ module _ {before now : Page} {all left : List Write} (going : Going before all n
     going_room = let l : length (w ∷ more) ≡ length left = ap (λ (ws : List Write). length ws) next in (omega (arith, going.room), omega arith)
 
     -- Its line is put.
-    pub going_on : (page : Page) → page.out.ghost_name ≡ now.out.ghost_name → Wrote now page (write_line w) → Going before all page more
+    pub going_on : (page : Page) → Wrote now page (write_line w) → Going before all page more
     unfolding write_lines
-    going_on page same wrote =
+    going_on page wrote =
         let l : length (w ∷ more) ≡ length left = ap (λ (ws : List Write). length ws) next in
         record {
-          same = same ∙ going.same;
+          same = wrote.same ∙ going.same;
           room = omega (arith, going.room, wrote.place, wrote.long, length_write w);
           rest = λ after others. going.rest after (rw (← next) (wrote_then wrote others));
         }

@@ -31,8 +31,7 @@ pub fn has_room(writes: usize, room: usize) -> bool
 // What loads: golden, or after a jump the update.
 fn put_loaded(page: &mut Page<'_>, jumped: bool)
     requires { page.old.at + 14 ≤ length page.old.out.now }
-    ensures same { page.new.out.ghost_name ≡ page.old.out.ghost_name }
-    ensures wrote { Wrote page.old page.new (loaded_line jumped) }
+    ensures { Wrote page.old page.new (loaded_line jumped) }
 {
     if jumped {
         page.put(b"LOADED update\n");
@@ -44,8 +43,7 @@ fn put_loaded(page: &mut Page<'_>, jumped: bool)
 // The lines of all writes that a cursor has to give, in one pass.
 fn put_writes(page: &mut Page<'_>, chip: &[u8], cursor: Cursor)
     requires { page.old.at + 27 * length (remaining_writes chip.now cursor) ≤ length page.old.out.now }
-    ensures same { page.new.out.ghost_name ≡ page.old.out.ghost_name }
-    ensures wrote { Wrote page.old page.new (write_lines (remaining_writes chip.now cursor)) }
+    ensures { Wrote page.old page.new (write_lines (remaining_writes chip.now cursor)) }
 {
     let mut here = cursor;
     while let Some(step) = step_at(chip, next_of(chip, here), here.remaining) {
@@ -58,8 +56,7 @@ fn put_writes(page: &mut Page<'_>, chip: &[u8], cursor: Cursor)
 #[tactic(auto, using(fields::proofs::Laws::length_hexadecimal, reportlines::proofs::Laws::length_end))]
 fn put_end(page: &mut Page<'_>, end: usize, writes: usize)
     requires { page.old.at + length (end_line end writes) ≤ length page.old.out.now }
-    ensures same { page.new.out.ghost_name ≡ page.old.out.ghost_name }
-    ensures wrote { Wrote page.old page.new (end_line end writes) }
+    ensures { Wrote page.old page.new (end_line end writes) }
 {
     page.put(b"END ");
     page.put_hexadecimal(8, end);
@@ -79,8 +76,7 @@ pub fn put_report(
     writes: usize,
 )
     requires { page.old.at + (14 + 27 * length (remaining_writes chip.now cursor) + length (end_line end writes)) ≤ length page.old.out.now }
-    ensures same { page.new.out.ghost_name ≡ page.old.out.ghost_name }
-    ensures wrote { Wrote page.old page.new (loaded_line jumped ++ write_lines (remaining_writes chip.now cursor) ++ end_line end writes) }
+    ensures { Wrote page.old page.new (loaded_line jumped ++ write_lines (remaining_writes chip.now cursor) ++ end_line end writes) }
 {
     put_loaded(page, jumped);
     put_writes(page, chip, cursor);

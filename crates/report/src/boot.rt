@@ -18,7 +18,7 @@ use reportlines::{STUCK, put_stuck};
 use writes::cursor::Cursor;
 
 // The report of a chip that loads. The boot answer says where its writes begin, so the chip is not read again for them.
-// Stays: no plainer: the last four parameters are the fields of Boot::Loaded, and a struct of them would be that case again.
+// Stays: BootLoaded of Boot (bootreader) holds them: the last four parameters are its fields, which theorems name one by one.
 fn report_loaded(
     chip: &[u8],
     out: &mut [u8],

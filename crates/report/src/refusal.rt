@@ -8,6 +8,7 @@ use fields::Page;
 use reportlines::{put_refused, refused_length};
 
 // The line `REFUSED`, number, place at the front of a buffer: how long it is; or refusal 19, and the buffer as it was.
+// Stays: refusal_answer holds it: every number is reported, also one that is no reason's.
 #[tactic(auto, unfolding(crate::specs::Refusal::written, base::specs::Output::front_filled, base::specs::Question::ask), using(base::proofs::Laws::gives))]
 pub fn report(number: u32, place: usize, out: &mut [u8]) -> Result<usize, Refusal>
     ensures answer { Gives report_numbers result (refusal_answer number place (length out.old)) }

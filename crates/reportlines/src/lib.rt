@@ -18,8 +18,7 @@ pub const STUCK: usize = 15;
 #[tactic(auto, using(fields::proofs::Laws::length_hexadecimal))]
 pub fn put_write(page: &mut Page<'_>, write: Write)
     requires { page.old.at + 27 ≤ length page.old.out.now }
-    ensures same { page.new.out.ghost_name ≡ page.old.out.ghost_name }
-    ensures wrote { Wrote page.old page.new (write_line write) }
+    ensures { Wrote page.old page.new (write_line write) }
 {
     page.put(b"WRITE ");
     page.put_hexadecimal(2, write.register as usize);
@@ -34,8 +33,7 @@ pub fn put_write(page: &mut Page<'_>, write: Write)
 #[tactic(auto, using(fields::proofs::Laws::length_hexadecimal))]
 pub fn put_stuck(page: &mut Page<'_>, place: usize)
     requires { page.old.at + 15 ≤ length page.old.out.now }
-    ensures same { page.new.out.ghost_name ≡ page.old.out.ghost_name }
-    ensures wrote { Wrote page.old page.new (stuck_line place) }
+    ensures { Wrote page.old page.new (stuck_line place) }
 {
     page.put(b"STUCK ");
     page.put_hexadecimal(8, place);
@@ -51,11 +49,11 @@ pub fn refused_length(number: u32, place: usize) -> usize
 }
 
 // A refusal: number and place.
+// Stays: refusal_answer holds it: every number is reported, also one that is no reason's.
 #[tactic(auto, using(crate::proofs::LineLaws::length_refused))]
 pub fn put_refused(page: &mut Page<'_>, number: u32, place: usize)
     requires { page.old.at + length (refused_line number place) ≤ length page.old.out.now }
-    ensures same { page.new.out.ghost_name ≡ page.old.out.ghost_name }
-    ensures wrote { Wrote page.old page.new (refused_line number place) }
+    ensures { Wrote page.old page.new (refused_line number place) }
 {
     page.put(b"REFUSED ");
     page.put_decimal(number as usize);

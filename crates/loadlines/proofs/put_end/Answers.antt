@@ -4,7 +4,7 @@ use Rattle.fields.proofs.Laws.{wrote_then}
 use Rattle.reportlines.specs.Reportlines.{end_line}
 use Rattle.loadlines.proofs.put_end.Goals as goal
 
-pub returns-clause-wrote : goal.returns-clause-wrote
+pub returns : goal.returns
 unfolding end_line ascii
-returns-clause-wrote c =
-    wrote_then (wrote_then (wrote_then (wrote_then c.put.ensures.wrote c.put_hexadecimal.ensures.wrote) c.put-2.ensures.wrote) c.put_decimal.ensures.wrote) c.put-3.ensures.wrote
+returns c =
+    wrote_then (wrote_then (wrote_then (wrote_then c.put.ensures c.put_hexadecimal.ensures) c.put-2.ensures) c.put_decimal.ensures) c.put-3.ensures

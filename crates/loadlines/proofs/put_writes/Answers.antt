@@ -24,10 +24,10 @@ loop-step-smaller c = (going_room c.loop-step.invariant c.in-Some.step.write (re
 
 pub loop-step-preserved : goal.loop-step-preserved
 loop-step-preserved c =
-    going_on c.loop-step.invariant c.in-Some.step.write (remaining_writes c.args.chip.now c.in-Some.step.cursor) (first (goal.at.loop-step-preserved c).In-Some) c.put_write.new.page c.put_write.ensures.same c.put_write.ensures.wrote
+    going_on c.loop-step.invariant c.in-Some.step.write (remaining_writes c.args.chip.now c.in-Some.step.cursor) (first (goal.at.loop-step-preserved c).In-Some) c.put_write.new.page c.put_write.ensures
 
-pub returns-clause-wrote : goal.returns-clause-wrote
-returns-clause-wrote c =
+pub returns : goal.returns
+returns c =
     let chip = c.args.chip.now in
     let here = c.loop-step.here in
     going_done c.loop-step.invariant (step_done chip here c.step_at.result (halves_remaining chip here c.next_of.result c.step_at.result c.next_of.ensures c.step_at.ensures) c.in_default.is)

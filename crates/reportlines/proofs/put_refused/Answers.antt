@@ -4,6 +4,6 @@ use Rattle.fields.proofs.Laws.{wrote_then}
 use Rattle.reportlines.specs.Reportlines.{refused_line}
 use Rattle.reportlines.proofs.put_refused.Goals as goal
 
-pub returns-clause-wrote : goal.returns-clause-wrote
+pub returns : goal.returns
 unfolding refused_line ascii
-returns-clause-wrote c = wrote_then (wrote_then (wrote_then (wrote_then c.put.ensures.wrote c.put_decimal.ensures.wrote) c.put-2.ensures.wrote) c.put_decimal-2.ensures.wrote) c.put-3.ensures.wrote
+returns c = wrote_then (wrote_then (wrote_then (wrote_then c.put.ensures c.put_decimal.ensures) c.put-2.ensures) c.put_decimal-2.ensures) c.put-3.ensures

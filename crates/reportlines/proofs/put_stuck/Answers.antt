@@ -4,6 +4,6 @@ use Rattle.fields.proofs.Laws.{wrote_then}
 use Rattle.reportlines.specs.Reportlines.{stuck_line}
 use Rattle.reportlines.proofs.put_stuck.Goals as goal
 
-pub returns-clause-wrote : goal.returns-clause-wrote
+pub returns : goal.returns
 unfolding stuck_line ascii
-returns-clause-wrote c = wrote_then (wrote_then c.put.ensures.wrote c.put_hexadecimal.ensures.wrote) c.put-2.ensures.wrote
+returns c = wrote_then (wrote_then c.put.ensures c.put_hexadecimal.ensures) c.put-2.ensures

@@ -15,11 +15,11 @@ put-requires t c =
       | else-value-ge10 w ↦ rw w.self-is (omega (arith, length_small c.args.value w.if-value-ge10.false))
     ]
 
-pub returns-clause-wrote : goal.returns-clause-wrote
-returns-clause-wrote t c =
+pub returns : goal.returns
+returns t c =
     elim c.if-value-ge10.branch [
-      | then-value-ge10 w ↦ rw (decimal_step c.args.value w.if-value-ge10.true) (wrote_then w.put_decimal.ensures.wrote (rw w.self-is at c.put.ensures.wrote))
+      | then-value-ge10 w ↦ rw (decimal_step c.args.value w.if-value-ge10.true) (wrote_then w.put_decimal.ensures (rw w.self-is at c.put.ensures))
       | else-value-ge10 w ↦
           let low : c.args.value % 10 ≡ c.args.value = let h = w.if-value-ge10.false in omega arith in
-          rw (decimal_small c.args.value w.if-value-ge10.false) (rw (w.self-is, low) at c.put.ensures.wrote)
+          rw (decimal_small c.args.value w.if-value-ge10.false) (rw (w.self-is, low) at c.put.ensures)
     ]

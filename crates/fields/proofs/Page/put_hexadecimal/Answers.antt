@@ -17,8 +17,8 @@ loop-i-preserved c =
       digits = digit_behind c.loop-i.self.out.now c.characters-characters.result c.loop-i.self.at c.loop-i.i c.loop-i.rest c.characters-characters.ensures (omega arith) (omega arith) ∙ i.digits;
     }
 
-pub returns-clause-wrote : goal.returns-clause-wrote
-returns-clause-wrote c =
+pub returns : goal.returns
+returns c =
     let page = c.args.self.now in
     let here = c.loop-i.self in
     let none : 0 ≡ c.loop-i.i = omega arith in
@@ -26,4 +26,4 @@ returns-clause-wrote c =
     let long : c.args.count ≡ length text = sym (length_hexadecimal c.args.count c.args.value) in
     let is : here.out.now ≡ paste page.out.now here.at text c.args.count =
     paste-zero here.out.now here.at (hexadecimal c.loop-i.i c.loop-i.rest) ∙ ap (λ (k : ℕ). paste here.out.now here.at (hexadecimal c.loop-i.i c.loop-i.rest) k) none ∙ c.loop-i.invariant.digits in
-    wrote_is page _ text (omega arith) (omega arith) (is ∙ ap₂ (λ (at count : ℕ). paste page.out.now at text count) c.loop-i.invariant.at long)
+    wrote_is page _ text c.loop-i.invariant.same (omega arith) (omega arith) (is ∙ ap₂ (λ (at count : ℕ). paste page.out.now at text count) c.loop-i.invariant.at long)

@@ -36,12 +36,12 @@ put_report-requires c =
 pub returns-clause-value : goal.returns-clause-value
 returns-clause-value c =
     let args = c.args in
-    let answer = loaded_put args.chip.now args.sync args.end args.writes args.jumped c.requires c.new-cursor.result c.new-cursor.ensures c.new-page.result c.put_report.new.page c.put_report.ensures.wrote c.new-page.ensures.front in
+    let answer = loaded_put args.chip.now args.sync args.end args.writes args.jumped c.requires c.new-cursor.result c.new-cursor.ensures c.new-page.result c.put_report.new.page c.put_report.ensures c.new-page.ensures.front in
     sym (rw c.new-page.ensures.buffer at answer.0)
 
 pub returns-clause-out_after : goal.returns-clause-out_after
 returns-clause-out_after c =
     let args = c.args in
-    let answer = loaded_put args.chip.now args.sync args.end args.writes args.jumped c.requires c.new-cursor.result c.new-cursor.ensures c.new-page.result c.put_report.new.page c.put_report.ensures.wrote c.new-page.ensures.front in
+    let answer = loaded_put args.chip.now args.sync args.end args.writes args.jumped c.requires c.new-cursor.result c.new-cursor.ensures c.new-page.result c.put_report.new.page c.put_report.ensures c.new-page.ensures.front in
     let same = rw c.new-page.ensures.buffer at answer.1 in
     search (rules, same)
