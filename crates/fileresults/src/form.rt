@@ -6,7 +6,7 @@ use base::refusal::Refusal;
 use imagefile::FileForm;
 
 // The forms' numbers at the C interface.
-// Stays: no plainer: an enum of these numbers would be a twin of FileForm, whose case holds a place and a length.
+// Stays: the C interface names a form by a number.
 const TEXT: u32 = 1;
 
 const BIT: u32 = 2;

@@ -1,6 +1,6 @@
 // Functions that a printer's C host calls on numbers alone (include/tealsettle.h), in a library of their own beside
-// crates `host`, `hostfiles` and `hosttexts`: how many orders a run has, and the number of one of them; how many switch words a cut can
-// leave; how many writes an image can have.
+// crates `host`, `hostfiles` and `hosttexts`: how many orders a run has, and the number of one of them; how many
+// switch words a cut can leave; how many writes an image can have.
 #![tactic(auto)]
 
 ghost use Rattle.std.specs.Prelude.{◌≡◌};
