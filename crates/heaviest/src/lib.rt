@@ -13,6 +13,7 @@ ghost use Rattle.heaviest.specs.Internal.{opening};
 use base::refusal::{Reason, Refusal, ask};
 use flash::{erase, fill, overwrite};
 use kind::spi::Spi;
+use packets::header::DESYNC;
 
 // No accepted image is shorter.
 const SHORTEST: usize = 12;
@@ -26,9 +27,6 @@ const SYNC: u32 = 0xAA99_5566;
 const TYPE1: u32 = 0x3000_8000;
 
 const TYPE2: u32 = 0x5000_0000;
-
-// The word that ends the reading.
-const DESYNC: u32 = 0x0000_000D;
 
 // Can an accepted image have this length?
 #[tactic(auto, unfolding(crate::specs::Heaviest::heaviest_length_allowed, base::specs::Question::ask), using(std::proofs::lemmas::Bool::Decides::nat_tests))]

@@ -19,21 +19,17 @@ impl Spi {
     pub const PAGE: usize = 256;
     // An erase takes a segment.
     pub const SEGMENT: usize = 4_096;
-    // The switch word, of four bytes, is the last of segment 0. ON, here as its bytes and as a number, chooses the update
-    // image.
+    // The switch word, of four bytes, is the last of segment 0. ON chooses the update image.
     pub const SWITCH: usize = 4_092;
 
     pub const SWITCH_LENGTH: usize = 4;
 
-    // Stays: no plainer: a constant's value cannot be a call, so neither can be made of the other by `to_be_bytes`.
     pub const ON: [u8; 4] = [0xAA, 0x99, 0x55, 0x66];
-
-    pub const ON_WORD: u32 = 0xAA99_5566;
     // The golden image's place, after segments 0 and 1.
     pub const GOLDEN: usize = 8_192;
 
     // Is this the kind's number?
-    // Stays: the C interface has a number for the kind of a chip, and of one kind yes or no says all.
+    // Stays: the C interface has a number for the kind of a chip; with one kind, yes or no is enough.
     pub fn has_number(number: u32) -> bool
         ensures { result ≡ eqb number spi_number }
     {

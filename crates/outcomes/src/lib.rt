@@ -23,7 +23,7 @@ fn count_changing(old: u32, changing: u32) -> TealsettleCounts
     ensures { result ≡ changing_counts old changing }
 {
     let words = 1u64 << changing.count_ones();
-    let on = u64::from((Spi::ON_WORD ^ old) & !changing == 0);
+    let on = u64::from((u32::from_be_bytes(Spi::ON) ^ old) & !changing == 0);
     TealsettleCounts { words, on }
 }
 

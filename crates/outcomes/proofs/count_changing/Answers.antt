@@ -35,4 +35,4 @@ unfolding changing_counts
 returns c =
     ap₂ (λ (words on : ℕ). record { words = words; on = on })
     (shifted c.args.changing c.ranges.changing.fits)
-    (c.from-on.ensures ∙ one (eqb (outside c.args.old c.args.changing) 0))
+    (c.from-on.ensures ∙ rw c.from_be_bytes.ensures (one (eqb (outside c.args.old c.args.changing) 0)))
