@@ -17,6 +17,7 @@ pub fn number(out: &mut impl Write, value: usize) -> io::Result<()> {
 }
 
 // One of two words, by a flag of the C host.
+// Stays: the C interface: a flag, and below a number that is 0 where a call was not refused.
 pub fn either<'a>(flag: u32, no: &'a str, yes: &'a str) -> &'a str {
     if flag == 0 { no } else { yes }
 }
@@ -46,12 +47,12 @@ pub fn packet_word(out: &mut impl Write, w: u32) -> io::Result<()> {
     write!(out, " {w:08X}")
 }
 
-// A byte that stands `count` times.
-fn run(out: &mut impl Write, b: u8, count: usize) -> io::Result<()> {
-    match count {
-        0 => Ok(()),
-        1 => write!(out, " {b:02X}"),
-        _ => write!(out, " {b:02X}*{count}"),
+// Bytes in a row that are all the same: the byte, and how often it stands.
+fn row(out: &mut impl Write, same: &[u8]) -> io::Result<()> {
+    match same {
+        [] => Ok(()),
+        [b] => write!(out, " {b:02X}"),
+        [b, ..] => write!(out, " {b:02X}*{}", same.len()),
     }
 }
 
@@ -60,17 +61,10 @@ pub fn bytes(out: &mut impl Write, buffer: &[u8]) -> io::Result<()> {
     if buffer.is_empty() {
         word(out, "nothing")?;
     }
-    let mut last = 0;
-    let mut count = 0;
-    for b in buffer {
-        if *b != last {
-            run(out, last, count)?;
-            count = 0;
-        }
-        last = *b;
-        count += 1;
+    for same in buffer.chunk_by(|a, b| a == b) {
+        row(out, same)?;
     }
-    run(out, last, count)
+    Ok(())
 }
 
 // The state of a run: F, U, A, n, phase, index, outcome.

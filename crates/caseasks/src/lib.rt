@@ -2,20 +2,18 @@
 // For the program above it alone: no more is proved here than that its functions are safe and end.
 #![tactic(auto)]
 
-ghost use Rattle.std.specs.Prelude.{◌≤◌, length};
-
 use caselines::call::Call;
 use caselines::parse::{Fields, Numbers, put_fields, read_numbers};
 
-// A call, its numbers (the last eight of the line; 0 for those that it has not), and where the last of its fields begins
-// and ends, and the one before it begins.
+// A call, its numbers (the last eight of the line; 0 for those that it has not), and its last field and what stands before
+// that: the field before it, and all before that one.
 #[derive(Clone, Copy)]
-pub struct Case {
+pub struct Case<'g> {
     pub call: Call,
     pub numbers: [usize; 8],
-    pub second: usize,
-    pub third: usize,
-    pub end: usize,
+    pub first: &'g [u8],
+    pub second: &'g [u8],
+    pub third: &'g [u8],
 }
 
 // What a line is that begins with no call's word, or has not what its call wants.
@@ -70,52 +68,50 @@ fn letters(word: &[u8]) -> &[u8] {
 }
 
 // The case of a call's word, where the line has the numbers and the fields that it wants.
-fn case_of(word: &[u8], numbers: Option<Numbers>, fields: Option<Fields>) -> Option<Case> {
-    let call = Call::named(word)?;
+fn case_of<'g>(
+    word: &[u8],
+    numbers: Option<Numbers>,
+    fields: Option<Fields>,
+    given: &'g [u8],
+) -> Option<Case<'g>> {
+    let call = Call::try_from(word).ok()?;
     let numbers = numbers?;
     let fields = fields?;
-    if !(numbers_fit(call, numbers) && fields_fit(call, fields)) {
+    if !numbers_fit(call, numbers) || !fields_fit(call, fields) {
         return None;
     }
     Some(Case {
         call,
         numbers: numbers.last,
-        second: fields.second,
-        third: fields.third,
-        end: fields.end,
+        first: given.get(..fields.second)?,
+        second: given.get(fields.second..fields.third)?,
+        third: given.get(fields.third..fields.end)?,
     })
 }
 
 // What a line asks; nothing, where it is empty or a comment. The bytes of its fields, which stand from a slash on, are put
 // to the front of a buffer.
-pub fn read_case(line: &[u8], given: &mut [u8]) -> Result<Option<Case>, Wrong> {
+pub fn read_case<'g>(line: &[u8], given: &'g mut [u8]) -> Result<Option<Case<'g>>, Wrong> {
     let space = line.iter().position(|b| *b == b' ').unwrap_or(line.len());
     let slash = line.iter().position(|b| *b == b'/').unwrap_or(line.len());
     let word = letters(&line[..space]);
     if line.is_empty() || word == b"#".as_slice() {
         return Ok(None);
     }
-    let numbers = if space < slash {
-        read_numbers(&line[space + 1..slash])
+    let between = if space < slash {
+        &line[space + 1..slash]
     } else {
-        Some(Numbers::none())
+        &line[..0]
     };
     let fields = put_fields(&line[slash..], given);
-    let case = case_of(word, numbers, fields).ok_or(Wrong)?;
+    let case = case_of(word, read_numbers(between), fields, given).ok_or(Wrong)?;
     Ok(Some(case))
 }
 
-// The bytes between two places, as far as there are any.
-pub fn field(given: &[u8], from: usize, to: usize) -> &[u8] {
-    given.get(from..to).unwrap_or(&[])
-}
-
-// Copies such bytes to the front of a buffer, as many as fit: how many.
-pub fn copy_field(given: &[u8], from: usize, to: usize, out: &mut [u8]) -> usize
-    ensures { result ≤ length out.new }
-{
-    let bytes = field(given, from, to);
+// Copies bytes to the front of a buffer, as many as fit: those.
+pub fn copied<'o>(bytes: &[u8], out: &'o mut [u8]) -> &'o mut [u8] {
     let size = bytes.len().min(out.len());
-    out[..size].copy_from_slice(&bytes[..size]);
-    size
+    let front = &mut out[..size];
+    front.copy_from_slice(&bytes[..size]);
+    front
 }

@@ -23,29 +23,35 @@ pub enum Call {
     Write,
 }
 
-impl Call {
-    // The call that a word names, if it names one.
-    pub fn named(word: &[u8]) -> Option<Call> {
+// What a word is that names no call.
+#[derive(Clone, Copy)]
+pub struct NoCall;
+
+impl<'a> TryFrom<&'a [u8]> for Call {
+    type Error = NoCall;
+
+    // The call that a word names.
+    fn try_from(word: &'a [u8]) -> Result<Call, NoCall> {
         match word {
-            b"boot" => Some(Call::Boot),
-            b"build" => Some(Call::Build),
-            b"check" => Some(Call::Check),
-            b"cut" => Some(Call::Cut),
-            b"ended" => Some(Call::Ended),
-            b"item" => Some(Call::Item),
-            b"items" => Some(Call::Items),
-            b"layout" => Some(Call::Layout),
-            b"list" => Some(Call::List),
-            b"order" => Some(Call::Order),
-            b"packets" => Some(Call::Packets),
-            b"progress" => Some(Call::Progress),
-            b"read" => Some(Call::Read),
-            b"reply" => Some(Call::Reply),
-            b"start" => Some(Call::Start),
-            b"switch" => Some(Call::Switch),
-            b"total" => Some(Call::Total),
-            b"write" => Some(Call::Write),
-            _ => None,
+            b"boot" => Ok(Call::Boot),
+            b"build" => Ok(Call::Build),
+            b"check" => Ok(Call::Check),
+            b"cut" => Ok(Call::Cut),
+            b"ended" => Ok(Call::Ended),
+            b"item" => Ok(Call::Item),
+            b"items" => Ok(Call::Items),
+            b"layout" => Ok(Call::Layout),
+            b"list" => Ok(Call::List),
+            b"order" => Ok(Call::Order),
+            b"packets" => Ok(Call::Packets),
+            b"progress" => Ok(Call::Progress),
+            b"read" => Ok(Call::Read),
+            b"reply" => Ok(Call::Reply),
+            b"start" => Ok(Call::Start),
+            b"switch" => Ok(Call::Switch),
+            b"total" => Ok(Call::Total),
+            b"write" => Ok(Call::Write),
+            _ => Err(NoCall),
         }
     }
 }

@@ -3,6 +3,7 @@
 ghost use Rattle.std.specs.Prelude.{◌<◌, ◌≤◌, length, IfSome};
 
 // How many numbers a line has, and the last eight of them; those that it has not are 0.
+// Stays: fixed memory: no line's numbers are kept in a Vec.
 #[derive(Clone, Copy)]
 pub struct Numbers {
     pub count: usize,
@@ -29,7 +30,7 @@ pub struct Fields {
 
 impl Numbers {
     // No numbers.
-    pub fn none() -> Numbers {
+    fn none() -> Numbers {
         Numbers {
             count: 0,
             last: [0; 8],
@@ -47,6 +48,7 @@ impl Numbers {
 }
 
 // The value of a hexadecimal digit, where a character is one.
+// Stays: no plainer: a char's `to_digit` takes small letters too, and a line is bytes, no text to `parse`.
 fn digit(c: u8) -> Option<u8>
     ensures { IfSome result (λ d. d ≤ 15) }
 {

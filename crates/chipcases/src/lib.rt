@@ -8,7 +8,7 @@ ghost use Rattle.std.specs.Prelude.{◌+◌, ◌*◌, ◌≤◌, length};
 use base::refusal::Refusal;
 use bootreader::{boot as loader, image};
 use caseanswers as say;
-use caseasks::{Case, field};
+use caseasks::Case;
 use caselines::SPI;
 use caselines::call::Call;
 use chip::switch;
@@ -134,8 +134,8 @@ fn listed(out: &mut impl Write, bytes: &[u8], listing: Result<Cursor, Refusal>) 
 }
 
 // A call on a chip's bytes. The last number of a line is the index where it is about one write.
-pub fn call_chip(out: &mut impl Write, case: Case, given: &[u8]) -> io::Result<()> {
-    let chip = field(given, case.third, case.end);
+pub fn call_chip(out: &mut impl Write, case: Case<'_>) -> io::Result<()> {
+    let chip = case.third;
     match case.call {
         Call::Boot => boot(out, chip),
         Call::Switch => switched(out, chip),
@@ -145,8 +145,8 @@ pub fn call_chip(out: &mut impl Write, case: Case, given: &[u8]) -> io::Result<(
 }
 
 // A call on an image by itself.
-pub fn call_image(out: &mut impl Write, case: Case, given: &[u8]) -> io::Result<()> {
-    let bytes = field(given, case.third, case.end);
+pub fn call_image(out: &mut impl Write, case: Case<'_>) -> io::Result<()> {
+    let bytes = case.third;
     match case.call {
         Call::Check => check(out, bytes),
         Call::Item => written(out, image::write(bytes, case.numbers[7])),

@@ -5,7 +5,7 @@
 #![tactic(auto)]
 
 use caseanswers as say;
-use caseasks::{Case, copy_field, field};
+use caseasks::{Case, copied};
 use caselines::call::Call;
 use caselines::{SPI, room};
 use host::build::tealsettle_build;
@@ -46,16 +46,13 @@ fn cut(
 }
 
 // A call that may change the bytes of the last field, and those bytes as they are then: it is lent a copy of them.
-pub fn call(out: &mut impl Write, case: Case, given: &[u8]) -> io::Result<()> {
-    let first = field(given, 0, case.second);
-    let second = field(given, case.second, case.third);
+pub fn call(out: &mut impl Write, case: Case<'_>) -> io::Result<()> {
     let mut space = room();
-    let size = copy_field(given, case.third, case.end, &mut space);
-    let lent = &mut space[0..size];
+    let lent = copied(case.third, &mut space);
     match case.call {
-        Call::Build => build(out, case.numbers, second, lent)?,
-        Call::Read => read(out, second, lent)?,
-        _ => cut(out, case.numbers, first, second, lent)?,
+        Call::Build => build(out, case.numbers, case.second, lent)?,
+        Call::Read => read(out, case.second, lent)?,
+        _ => cut(out, case.numbers, case.first, case.second, lent)?,
     }
     say::bytes(out, lent)
 }

@@ -5,7 +5,7 @@
 #![tactic(auto)]
 
 use caseanswers as say;
-use caseasks::{Case, field};
+use caseasks::Case;
 use caselines::SPI;
 use caselines::call::Call;
 use host::run::{tealsettle_finished, tealsettle_order, tealsettle_reply, tealsettle_start};
@@ -36,12 +36,13 @@ fn total(out: &mut impl Write, numbers: [usize; 8]) -> io::Result<()> {
     say::number(out, answer.orders)
 }
 
-// A number of 32 bits, which phase, outcome and the kind of reply are.
+// A number of 32 bits, which phase, outcome and the kind of reply are: a line with a larger one asks nothing.
 fn narrow(value: usize) -> u32 {
-    (value & 0xFFFF_FFFF) as u32
+    u32::try_from(value).unwrap_or(u32::MAX)
 }
 
 // The name of an operation.
+// Stays: the C interface names an operation by a number.
 fn operation(number: u32) -> &'static str {
     match number {
         1 => "erase",
@@ -107,20 +108,14 @@ fn progress(out: &mut impl Write, numbers: [usize; 8]) -> io::Result<()> {
 }
 
 // A call that changes no byte.
-pub fn call(out: &mut impl Write, case: Case, given: &[u8]) -> io::Result<()> {
-    let last = field(given, case.third, case.end);
+pub fn call(out: &mut impl Write, case: Case<'_>) -> io::Result<()> {
     match case.call {
         Call::Layout => layout(out, case.numbers),
         Call::Total => total(out, case.numbers),
         Call::Ended => ended(out, case.numbers),
         Call::Progress => progress(out, case.numbers),
-        Call::Start => start(out, case.numbers, last),
-        Call::Order => order(out, case.numbers, last),
-        _ => reply(
-            out,
-            case.numbers,
-            field(given, case.second, case.third),
-            last,
-        ),
+        Call::Start => start(out, case.numbers, case.third),
+        Call::Order => order(out, case.numbers, case.third),
+        _ => reply(out, case.numbers, case.second, case.third),
     }
 }

@@ -39,17 +39,13 @@ use input::read_full;
 use std::io;
 use std::io::{BufWriter, Write};
 
-// The call of a case, with the bytes of its fields.
-fn call(out: &mut impl Write, case: Case, given: &[u8]) -> io::Result<()> {
+// The call of a case.
+fn call(out: &mut impl Write, case: Case<'_>) -> io::Result<()> {
     match case.call {
-        Call::Build | Call::Read | Call::Cut => lentcases::call(out, case, given),
-        Call::Boot | Call::Switch | Call::Write | Call::List => chipcases::call_chip(
-            out, case, given,
-        ),
-        Call::Check | Call::Item | Call::Items | Call::Packets => chipcases::call_image(
-            out, case, given,
-        ),
-        _ => runcases::call(out, case, given),
+        Call::Build | Call::Read | Call::Cut => lentcases::call(out, case),
+        Call::Boot | Call::Switch | Call::Write | Call::List => chipcases::call_chip(out, case),
+        Call::Check | Call::Item | Call::Items | Call::Packets => chipcases::call_image(out, case),
+        _ => runcases::call(out, case),
     }
 }
 
@@ -60,7 +56,7 @@ fn run_line(out: &mut impl Write, line: &[u8]) -> io::Result<()> {
         Ok(None) => Ok(()),
         Ok(Some(case)) => {
             say::word(out, "=")?;
-            call(out, case, &given)
+            call(out, case)
         }
         Err(_) => write!(out, " = ?"),
     }
