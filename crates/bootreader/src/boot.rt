@@ -12,6 +12,8 @@ use packets::trace::Write;
 use writes::cursor::{Cursor, nth_from};
 
 // What a chip loads, or where it is stuck.
+// Stays: Outcome::Loaded (configreader) and this Loaded have the same fields: theorems of both crates name the cases with their
+// fields, so they hold it.
 #[derive(Clone, Copy)]
 pub enum Boot {
     Loaded {

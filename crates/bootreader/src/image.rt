@@ -46,7 +46,6 @@ fn fault_of(outcome: Outcome) -> Refusal
 }
 
 // What an image loads by itself, for an area of `longest` bytes: sync, end, writes; or refusal 4, 5 or 6.
-// Stays: document 01, "Language forms", holds it: the check takes the reader's enum apart with let .. else.
 #[tactic(auto, unfolding(crate::specs::Image::alone_case, base::specs::Question::ask), using(base::proofs::Laws::gives))]
 pub fn check_within(image: &[u8], longest: usize) -> Result<Accepted, Refusal>
     ensures { Gives image_numbers result (image_within spi longest image.now) }

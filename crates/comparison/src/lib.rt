@@ -9,9 +9,6 @@ ghost use Rattle.comparison.specs.Comparison.{padded, differs};
 
 use base::copy;
 
-// Stays: no plainer: that bytes are no more than a page has, expected ones no more than those, and a place one of a chip, is asked
-// of one look's bytes on their way through three functions; a struct of the three would be made for `compare` alone.
-
 // Bytes, then FF to the end of a page.
 pub fn padded_page(bytes: &[u8]) -> [u8; 256]
     requires { length bytes.now ≤ page }
@@ -75,6 +72,9 @@ fn first_difference(place: usize, bytes: &[u8], expected: &[u8]) -> Option<usize
 
 // Compares bytes from a place on with those expected there: `expected`, then FF. The first address at which they
 // differ, or none. Nearly every look agrees, so the slower search for an address waits until one does not.
+// Stays: no plainer: that bytes are no more than a page has, expected ones no more than those, and a place one of a chip, is asked
+// of one look's bytes on their way through orders::compare_look, this and `first_difference`; a struct of the three would be
+// made for `compare` alone.
 #[tactic(auto, using(crate::proofs::ComparisonLaws::differs_none))]
 pub fn compare(place: usize, bytes: &[u8], expected: &[u8]) -> Option<usize>
     requires { (place ≤ longest_chip) × (length expected.now ≤ length bytes.now) × (length bytes.now ≤ page) }

@@ -8,14 +8,14 @@ ghost use Rattle.flash.specs.Flash.{erased, flash_numbers, flash_answer, after_p
 use base::refusal::{Reason, Refusal, ask};
 
 // Whether a span lies within so many bytes; or refusal 19. Asked of what is left after its place, so that no sum can wrap.
+// Stays: no plainer: a place and a count go together through three functions, this, `fill` and `erase`; the other two have the
+// count as the length of their bytes.
 #[tactic(auto, unfolding(crate::specs::Flash::flash_answer, base::specs::Question::ask), using(std::proofs::lemmas::Bool::Decides::nat_tests))]
 fn ask_room(length: usize, place: usize, count: usize) -> Result<(), Refusal>
     ensures { result ≡ flash_answer length place count }
 {
     ask(place <= length && count <= length - place, Reason::NoRoom)
 }
-
-// Stays: no plainer: a place and a count go together through these four, but two have the count as the length of their bytes.
 
 // Puts one byte at every place of a span, whatever stood there: an erase does so with FF. Or refusal 19, and the chip as it
 // was.

@@ -22,7 +22,7 @@ pub const READ: u32 = 1;
 
 // How a reply is judged: it is not the one asked for; it moves the run on; or a look read another byte at an
 // address. It holds no state, so that little is carried through the questions.
-// Stays: no plainer: a Result of an Option has three cases as well, and no names for them.
+// Stays: judged holds its three cases.
 #[derive(Drop)]
 pub enum Judgement {
     NotAsked,
@@ -69,6 +69,8 @@ fn compare_look(image: &[u8], phase: u32, index: usize, place: usize, bytes: &[u
 }
 
 // Questions 8 and 9, for a reply to an order of a phase.
+// Stays: no plainer: layout, image, phase and index in one struct would be the updater's State with its image, made of it at each
+// call; `compare_look` takes all but the layout.
 #[tactic(auto, using(crate::proofs::JudgingLaws::judged_erase, crate::proofs::JudgingLaws::judged_program, crate::proofs::JudgingLaws::judged_refused, crate::proofs::JudgingLaws::judged_compared, crate::proofs::JudgingLaws::asked_for, crate::proofs::CarriedLaws::looks))]
 pub fn judge(
     layout: Layout,

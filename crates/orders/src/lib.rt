@@ -19,7 +19,7 @@ pub mod judging;
 
 // What is to be done with the chip: an erase of `length` bytes from `place` on, a program of as many, or
 // a look at as many.
-// Stays: no plainer: a kind with a place and a length beside it would be matched on by its kind as well.
+// Stays: operation_of holds the three cases with their spans, and so do the theorems that say Erase, Program and Look.
 #[derive(Drop)]
 pub enum Operation {
     Erase { place: usize, length: usize },
@@ -28,7 +28,7 @@ pub enum Operation {
 }
 
 // How many orders a phase has.
-// Stays: State (updater; its calls answer refusal 7 for every phase, and hand every state back) holds it that a phase is a
+// Stays: State (updater; its calls answer refusal 7 for every state that does not fit, and hand every state back) holds it that a phase is a
 // number here and in the functions below.
 // Stays: no plainer: layout, length, phase and index in one struct would be that State without its outcome, made of it at
 // each call.

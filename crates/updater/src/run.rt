@@ -23,7 +23,7 @@ pub struct OrderAnswer {
 
 // What a reply comes to: the next state; or a stop, with its number, the first address that differs, and the state that
 // has ended.
-// Stays: stop_of (reply_answer) holds it that a stop has a number, and no reason: of a phase that does not look it is 0.
+// Stays: a stop's number is 0 in a phase that does not look (stop_of holds it), so it is no Reason.
 #[derive(Drop)]
 pub enum Reply {
     Next {
@@ -144,6 +144,7 @@ impl State {
     // The next state; or a stop, 10 to 12, with the state that has ended; or refusal 7, 8 or 9 with the state that
     // was given. The image is the run's: it is lent again, so that what a look is to find is always the image's own
     // bytes.
+    // Stays: no proof: tried map_err(..)? in place of the match: what it says of a refusal came out too long to prove with.
     pub fn reply(self, image: &[u8], reply_kind: u32, bytes: &[u8]) -> Result<Reply, RefusedReply>
         ensures { Gives reply_numbers result (reply_answer spi self image.now reply_kind bytes.now) }
     {
