@@ -41,6 +41,7 @@ pub fn put_pairs(bytes: &[u8], out: &mut [u8], at: usize)
 }
 
 // What bytes add to.
+// Stays: no plainer: that they are no more than 255 is asked of one slice on its way; a type for it would be made at each record and taken apart at once.
 #[tactic(auto, using(crate::proofs::SpanLaws::no_sum, crate::proofs::SpanLaws::next_sum))]
 pub fn byte_sum(bytes: &[u8]) -> u32
     requires { length bytes.now ≤ 255 }

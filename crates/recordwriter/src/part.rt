@@ -27,7 +27,7 @@ pub fn put_part(part: &[u8], start: usize, out: &mut [u8], to: usize) -> usize
     ensures place { result ≡ to + length (part_text start part.now) }
     ensures output { out.new ≡ paste out.old to (part_text start part.now) (length (part_text start part.now)) }
 {
-    // Stays: slower: over part.chunks the text of 16 MiB takes 18.6 ms, and by places in the part 17.3 (measured).
+    // Stays: slower: over part.chunks 18.6 ms, and by places in the part 17.3, where the loop as it stands takes 15.7 (measured: the text of 16 MiB, by a copy of the writer with short contracts).
     let mut done = 0;
     let mut at = to;
     while done < part.len() {
