@@ -36,6 +36,7 @@ pub struct TealsettleStart {
 
 // A refusal's number and place; or 0, 0 and the operation (1 erase, 2 program, 3 look), its span, and the
 // bytes of a program.
+// Stays: the C interface has a program's bytes as an array of 256.
 #[repr(C)]
 #[derive(Drop)]
 pub struct TealsettleOrder {
@@ -48,7 +49,7 @@ pub struct TealsettleOrder {
 }
 
 // What an order asks for, as a number.
-// Stays: no plainer: an enum of these numbers would be a twin of Operation, whose cases hold a span.
+// Stays: the C interface names an operation by a number.
 const ERASE: u32 = 1;
 
 const PROGRAM: u32 = 2;
@@ -137,39 +138,19 @@ impl From<OrderAnswer> for TealsettleOrder {
     #[tactic(auto, unfolding(crate::specs::Run::order_result, updater::specs::Run::order_result_numbers, updater::specs::Run::operation_numbers))]
     fn from(answer: OrderAnswer) -> TealsettleOrder {
         let OrderAnswer { result, bytes } = answer;
-        match result {
-            Ok(Operation::Erase { place, length }) => TealsettleOrder {
-                number: 0,
-                place: 0,
-                operation: ERASE,
-                address: place,
-                length,
-                bytes,
-            },
-            Ok(Operation::Program { place, length }) => TealsettleOrder {
-                number: 0,
-                place: 0,
-                operation: PROGRAM,
-                address: place,
-                length,
-                bytes,
-            },
-            Ok(Operation::Look { place, length }) => TealsettleOrder {
-                number: 0,
-                place: 0,
-                operation: LOOK,
-                address: place,
-                length,
-                bytes,
-            },
-            Err(refusal) => TealsettleOrder {
-                number: refusal.reason.number(),
-                place: refusal.place,
-                operation: 0,
-                address: 0,
-                length: 0,
-                bytes,
-            },
+        let (number, at, operation, address, length) = match result {
+            Ok(Operation::Erase { place, length }) => (0, 0, ERASE, place, length),
+            Ok(Operation::Program { place, length }) => (0, 0, PROGRAM, place, length),
+            Ok(Operation::Look { place, length }) => (0, 0, LOOK, place, length),
+            Err(refusal) => (refusal.reason.number(), refusal.place, 0, 0, 0),
+        };
+        TealsettleOrder {
+            number,
+            place: at,
+            operation,
+            address,
+            length,
+            bytes,
         }
     }
 }
