@@ -33,6 +33,8 @@ impl<'a> Run<'a> {
     }
 
     // Its state, which goes on.
+    // Stays: no plainer: an Option of `Running` in place of `goes_on` would be without the image, so that `obey_order` would ask for
+    // the image's length beside it; `fits` of `Run` holds that here.
     fn running(&self) -> Running
         requires { running self.now.state ≡ true }
         ensures { result.state ≡ self.now.state }
@@ -74,10 +76,7 @@ impl<'a> Run<'a> {
                 let bytes = self.running().bytes(self.image);
                 let _ = program(chip, place, &bytes[..length]);
             }
-            Operation::Look {
-                place: _,
-                length: _,
-            } => {}
+            Operation::Look { .. } => {}
         }
     }
 
