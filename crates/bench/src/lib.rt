@@ -51,6 +51,7 @@ fn span_allowed(place: usize, count: usize, others: &[u8], damage: &[u8]) -> boo
 
 // Question 10 for the current order, before anything is written: the chip is the one before the run.
 // Only the erase of segment 0 finds it as it was.
+// Stays: no plainer: that the chip has the layout's length is asked here and in the two below: the chip is lent beside the run.
 fn damage_allowed(chip: &[u8], run: &Run, damage: &[u8]) -> bool
     requires { run.now.state.layout.chip_length ≡ length chip.now }
     ensures { result ≡ cut_allowed (drop (position run.now.state) (orders spi run.now.state.layout run.now.image.now)) (chip_after spi run.now.state.layout run.now.image.now (position run.now.state) chip.now) damage.now }
@@ -67,10 +68,7 @@ fn damage_allowed(chip: &[u8], run: &Run, damage: &[u8]) -> bool
             damage,
         ),
         Operation::Program { place, length } => span_allowed(place, length, &on, damage),
-        Operation::Look {
-            place: _,
-            length: _,
-        } => true,
+        Operation::Look { .. } => true,
     }
 }
 
@@ -87,10 +85,7 @@ fn write_damage(chip: &mut [u8], run: &Run, damage: &[u8])
         Operation::Erase { place, length } | Operation::Program { place, length } => {
             let _ = overwrite(chip, place, &damage[..length]);
         }
-        Operation::Look {
-            place: _,
-            length: _,
-        } => {}
+        Operation::Look { .. } => {}
     }
 }
 
