@@ -1,6 +1,5 @@
 // A run's state: where the run is, whether a state fits an image, its current order, and the state after that. State,
-// order and run are document 01's terms. `Running` is for this crate,
-// `starts` and `effects` alone.
+// order and run are document 01's terms. `Running` is for this crate, `starts` and `effects` alone.
 ghost use Rattle.std.specs.Prelude.{ℕ, ◌≡◌, true, List, length};
 ghost use Rattle.kind.specs.Spi.{spi};
 ghost use Rattle.orders.specs.Orders.{operation_of, order_bytes};
