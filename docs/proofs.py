@@ -170,7 +170,8 @@ def owner_of(lines, at):
 def comment_above(lines, at):
     above = takewhile(lambda line: line.lstrip().startswith(('//', '#[')), reversed(lines[:at]))
     said = [line.strip(' /') for line in above if not line.lstrip().startswith('#[')]
-    return ' '.join(reversed(said))
+    # Why a form stays as it is, which comes last, is said to those who read the code.
+    return ' '.join(takewhile(lambda line: not line.startswith('Stays:'), reversed(said)))
 
 
 def header_from(lines, at, indent):
