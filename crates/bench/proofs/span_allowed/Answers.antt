@@ -3,7 +3,6 @@ use Prim.Native.Nat.{ℕ}
 use mathlib.Core.Path.{sym, ap₂, ◌∙◌}
 use native.Mathlib.Omega.{arith}
 use lib.ListN.{take}
-use lib.Seq.{length-take-le}
 use Rattle.flash.specs.Flash.{erased}
 use Rattle.flash.proofs.Laws.{erased_length}
 use Rattle.bench.specs.Bench.{mixture}
@@ -21,16 +20,6 @@ returns-then-place-ge-SEGMENT c =
     let a = c.args in
     let n = erased_length a.count in
     sym (allows_far a.place a.others.now (erased a.count) a.damage.now (omega arith) (omega arith))
-
-pub slice_bounds-mixes_with_erased-end : goal.slice_bounds-mixes_with_erased-end
-slice_bounds-mixes_with_erased-end c =
-    let a = c.args in
-    sym (length-take-le a.count a.damage.now (omega arith))
-
-pub mixes_with_erased-requires : goal.mixes_with_erased-requires
-mixes_with_erased-requires c =
-    let a = c.args in
-    c.requires (omega arith) ∙ sym (length-take-le a.count a.damage.now (omega arith))
 
 pub returns : goal.returns
 returns c =

@@ -1,6 +1,6 @@
 -- `loadlines::put_writes` meets its contract. The loop's invariant: the lines that are left give the same as all of them gave at the start.
 use Rattle.std.proofs.Common.{◌≡◌, ◌∷◌}
-use Rattle.loadlines.proofs.ListLaws.{going_start, going_room, going_on, going_done, step_wrote, step_done}
+use Rattle.loadlines.proofs.ListLaws.{going_room, going_on, going_done, step_wrote, step_done}
 use Rattle.writes.specs.Cursor.{remaining_writes}
 use Rattle.writes.proofs.Laws.{halves_remaining}
 use Rattle.loadlines.proofs.put_writes.Goals as goal
@@ -12,9 +12,6 @@ first c =
     let chip = c.args.chip.now in
     let here = c.loop-step.here in
     step_wrote chip here c.step_at.result c.in-Some.step (halves_remaining chip here c.next_of.result c.step_at.result c.next_of.ensures c.step_at.ensures) c.in-Some.is
-
-pub loop-step-init : goal.loop-step-init
-loop-step-init c = going_start c.args.page.now (remaining_writes c.args.chip.now c.args.cursor) c.requires
 
 pub put_write-requires : goal.put_write-requires
 put_write-requires c = (going_room c.loop-step.invariant c.in-Some.step.write (remaining_writes c.args.chip.now c.in-Some.step.cursor) (first (goal.at.put_write-requires c).In-Some)).0

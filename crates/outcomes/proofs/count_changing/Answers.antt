@@ -19,12 +19,6 @@ shifted changing h =
     let wide : 2 ^ ones changing < 2 ^ 64 = pow-lt {j = 64} (omega arith) in
     ap (λ (n : ℕ). n % 2 ^ 64) (one-mul (2 ^ ones changing)) ∙ mod-eq_of_lt wide
 
-pub overflow_cast-words : goal.overflow_cast-words
-overflow_cast-words c = let few = ones-le 32 c.args.changing c.ranges.changing.fits in record { fits = omega arith }
-
-pub overflow_shl-words : goal.overflow_shl-words
-overflow_shl-words c = let few = ones-le 32 c.args.changing c.ranges.changing.fits in omega arith
-
 one : (b : Bool) → bool_byte b ≡ ask b 0 1
 unfolding ask
 one true = refl

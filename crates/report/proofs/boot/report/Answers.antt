@@ -15,9 +15,6 @@ returns-in_err-sync c =
       output = sym answer.1;
     }
 
-pub report_loaded-requires : goal.report_loaded-requires
-report_loaded-requires c = ap (λ (b : Boot). let answer : Result Boot Refusal = Ok b in answer) (sym c.in-Loaded.is) ∙ sym c.in_ok-sync.was ∙ c.answer.ensures.same
-
 pub returns-in-Stuck : goal.returns-in-Stuck
 returns-in-Stuck c =
     let stuck = ap (λ (b : Boot). let answer : Result Boot Refusal = Ok b in answer) (sym c.in-Stuck.is) ∙ sym c.in_ok-sync.was ∙ c.answer.ensures.same in
