@@ -6,6 +6,7 @@ ghost use Rattle.base.specs.Refusal.{refused};
 ghost use Rattle.kind.specs.Spi.{spi};
 ghost use Rattle.packets.specs.Trace.{write_numbers};
 ghost use Rattle.writes.specs.Cursor.{listing_numbers};
+ghost use Rattle.bootreader.specs.Types.{ImageFault};
 ghost use Rattle.bootreader.specs.Image.{accepted, alone_case, image_numbers, image_within, image_answer, image_write, image_listing};
 
 use base::refusal::{Reason, Refusal, ask};
@@ -26,7 +27,7 @@ pub struct Accepted {
 // The refusal of an image whose reading alone is not Loaded: 6 at an IPROG, 5 at every other fault.
 #[tactic(auto, unfolding(crate::specs::Image::alone_case))]
 fn fault_of(outcome: Outcome) -> Refusal
-    ensures { result ≡ alone_case (λ reason place. record { reason = reason; place = place }) (λ sync end writes. result) outcome }
+    ensures { result ≡ alone_case (λ reason place. record { reason = reason; place = place }) (λ sync end writes. record { reason = ImageFault; place = end }) outcome }
 {
     match outcome {
         Outcome::Iprog { place } => Refusal {

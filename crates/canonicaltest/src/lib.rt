@@ -60,17 +60,16 @@ fn end_fits(upper: bool, next: usize, long: usize) -> bool
     image_length_allowed(Spi::LONGEST, next)
 }
 
-// Is this the canonical text of an image? It is asked of any bytes.
-pub fn is_canonical(text: &[u8]) -> bool
-    ensures { result ≡ is_canonical text.now }
+// The pass, given the table of digits.
+fn passes(digits: &Digits, text: &[u8]) -> bool
+    ensures { result ≡ text_passes text.now }
 {
-    let digits = Digits::new();
     let mut at = 0;
     let mut next = 0;
     let mut upper = false;
     // Stays: no plainer: an iterator of lines would carry each line's place and its end beside it, and promise all that `parse` does.
     while at < text.len() {
-        let Ok(line) = parse(&digits, text, at) else {
+        let Ok(line) = parse(digits, text, at) else {
             return false;
         };
         match line {
@@ -99,4 +98,11 @@ pub fn is_canonical(text: &[u8]) -> bool
         }
     }
     false
+}
+
+// Is this the canonical text of an image? It is asked of any bytes.
+pub fn is_canonical(text: &[u8]) -> bool
+    ensures { result ≡ is_canonical text.now }
+{
+    passes(&Digits::new(), text)
 }

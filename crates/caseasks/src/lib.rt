@@ -2,6 +2,8 @@
 // For the program above it alone: no more is proved here than that its functions are safe and end.
 #![tactic(auto)]
 
+ghost use Rattle.std.specs.Prelude.{◌≤◌, length};
+
 use caselines::call::Call;
 use caselines::parse::{Fields, Numbers, put_fields, read_numbers};
 
@@ -109,7 +111,9 @@ pub fn read_case<'g>(line: &[u8], given: &'g mut [u8]) -> Result<Option<Case<'g>
 }
 
 // Copies bytes to the front of a buffer, as many as fit: those.
-pub fn copied<'o>(bytes: &[u8], out: &'o mut [u8]) -> &'o mut [u8] {
+pub fn copied<'o>(bytes: &[u8], out: &'o mut [u8]) -> &'o mut [u8]
+    ensures { length result.now ≤ length out.old }
+{
     let size = bytes.len().min(out.len());
     let front = &mut out[..size];
     front.copy_from_slice(&bytes[..size]);

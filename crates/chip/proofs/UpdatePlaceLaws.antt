@@ -1,17 +1,15 @@
 -- Where a chip's update area begins, as its segment 1 says: a well-formed chip names its own U, and a U that is found is one that segment 1 begins with the words for.
-use Prim.Native.Nat.{ℕ, zero, suc, ◌+◌, ◌-◌, ◌^◌, ◌<◌, ◌≤◌}
+use Prim.Native.Nat.{ℕ, zero, suc, ◌+◌, ◌^◌, ◌<◌, ◌≤◌}
 use mathlib.Core.Path.{◌≡◌, refl, sym, ap, subst, ◌∙◌}
 use mathlib.Core.Bool.{Bool, true, false}
 use mathlib.Core.List.{List, [], ◌∷◌}
 use native.Mathlib.Omega.{arith}
-use lib.Dec.{eqb}
-use lib.ListN.{length, get_or, take, drop, length-drop}
+use lib.ListN.{length, get_or, drop, length-drop}
 use lib.Seq.{get_or-drop}
-use Rattle.std.specs.Prelude.{Result, Ok, Err, Option, Some}
-use Rattle.std.specs.List.{starts_with}
+use Rattle.std.specs.Prelude.{Result, Ok, Err, Option, Some, None}
 use Rattle.base.specs.Refusal.{refused}
 use Rattle.base.proofs.Laws.{asked, asked_yes}
-use Rattle.framing.proofs.Laws.{starts_at, starts_all, word_of_law, bytes_word}
+use Rattle.framing.proofs.Laws.{starts_at, starts_all, starts_differs, word_of_law, bytes_word}
 use Rattle.kind.specs.Layout.{chip_length_allowed, segment}
 use Rattle.kind.specs.Spi.{spi, spi_warm_boot}
 use Rattle.kind.proofs.Laws.{chip_length_range, update_place_range}
@@ -19,8 +17,6 @@ use Rattle.chip.specs.Chip.{WellFormed}
 use Rattle.chip.specs.UpdatePlace.{named_place, begins_for, place_case, place_answer}
 use Rattle.chip.specs.Theorems.{NamedPlace}
 use Rattle.chip.specs.Types.{BadChipLength, Refusal}
-use Rattle.framing.proofs.Laws.{starts_begins}
-use Rattle.chip.proofs.SwitchLaws.{begins_taken}
 
 words_length : (update_place : ℕ) → length (spi_warm_boot update_place) ≡ 20
 unfolding spi_warm_boot
@@ -33,21 +29,23 @@ begins_for_law update_place chip long same =
     let d = length-drop segment chip in
     starts_all (spi_warm_boot update_place) (drop segment chip) (omega arith) (λ j h. get_or-drop segment chip j 0 ∙ same j (omega arith))
 
--- So it does where the bytes from it on start with them.
-begins_by : (update_place : ℕ) (chip : List ℕ) {begins : Bool} → segment + 20 ≤ length chip → begins ≡ starts_with eqb (take (length chip - segment) (drop segment chip)) (spi_warm_boot update_place) → begins_for spi update_place chip ≡ begins
-begins_by update_place chip long e =
-    let l = words_length update_place in
-    sym (begins_taken (spi_warm_boot update_place) (drop segment chip) (length chip - segment) (omega arith))
-    ∙ sym (starts_begins (spi_warm_boot update_place) (take (length chip - segment) (drop segment chip)))
-    ∙ sym e
+begins_not : (update_place : ℕ) (chip : List ℕ) (j : ℕ) → j < 20 → (get_or chip (segment + j) 0 ≡ get_or (spi_warm_boot update_place) j 0 → ⊥) → begins_for spi update_place chip ≡ false
+begins_not update_place chip j h differs =
+    let e = words_length update_place in
+    starts_differs (spi_warm_boot update_place) (drop segment chip) j (omega arith) (λ same. differs (sym (get_or-drop segment chip j 0) ∙ same))
 
 -- A chip with an allowed length is answered by whether its segment 1 begins for the U that it names.
 place_case_law : (chip : List ℕ) (begins : Bool) → chip_length_allowed (length chip) ≡ true → begins_for spi (named_place chip) chip ≡ begins → place_answer spi chip ≡ place_case begins (named_place chip)
 unfolding place_answer
 place_case_law chip begins allowed e = asked_yes _ _ _ allowed ∙ ap (λ (b : Bool). place_case b (named_place chip)) e
 
-pub place_by : (chip : List ℕ) {begins : Bool} → chip_length_allowed (length chip) ≡ true → begins ≡ starts_with eqb (take (length chip - segment) (drop segment chip)) (spi_warm_boot (named_place chip)) → place_case begins (named_place chip) ≡ place_answer spi chip
-place_by chip {begins} allowed e = sym (place_case_law chip begins allowed (begins_by (named_place chip) chip (let l = chip_length_range _ allowed in omega arith) e))
+pub place_found : (chip : List ℕ) → chip_length_allowed (length chip) ≡ true → ((j : ℕ) → j < 20 → get_or chip (segment + j) 0 ≡ get_or (spi_warm_boot (named_place chip)) j 0) → place_answer spi chip ≡ Ok (Some (named_place chip))
+unfolding place_case
+place_found chip allowed same = place_case_law chip true allowed (begins_for_law (named_place chip) chip (let l = chip_length_range _ allowed in omega arith) same)
+
+pub place_nothing : (chip : List ℕ) (j : ℕ) → chip_length_allowed (length chip) ≡ true → j < 20 → (get_or chip (segment + j) 0 ≡ get_or (spi_warm_boot (named_place chip)) j 0 → ⊥) → place_answer spi chip ≡ Ok None
+unfolding place_case
+place_nothing chip j allowed h differs = place_case_law chip false allowed (begins_not (named_place chip) chip j h differs)
 
 -- Where segment 1 begins for a U, that is the U that it names.
 named : (update_place : ℕ) (chip : List ℕ) → update_place < 2 ^ 32 → segment + 20 ≤ length chip → begins_for spi update_place chip ≡ true → named_place chip ≡ update_place

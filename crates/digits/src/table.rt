@@ -24,7 +24,7 @@ const VALUES: [u8; 256] = [
 // The table. A caller makes one and lends it: a constant array is made anew at each use.
 #[derive(Drop)]
 pub struct Digits {
-    values: [u8; 256],
+    pub values: [u8; 256],
     pub ghost are_digits: { DigitTable values },
 }
 

@@ -62,9 +62,9 @@ impl From<Result<Cursor, Refusal>> for TealsettleListing {
                 cursor: cursor.into(),
                 ..TealsettleListing::default()
             },
-            Err(refusal) => TealsettleListing {
-                number: refusal.reason.number(),
-                place: refusal.place,
+            Err(Refusal { reason, place }) => TealsettleListing {
+                number: reason.number(),
+                place,
                 ..TealsettleListing::default()
             },
         }
